@@ -180,8 +180,8 @@ LAWS = {
          " claims_are_refuted_or_met known_values_are_right edges_have_relations worked_refutations"),
         ("possible_reads", "readings_are_possible written_values_are_possible known_order_is_right some_write_comes_last"
          " last_words_are_possible last_registers_are_possible truths_are_those_left claims_give_facts some_case_is_met worked_readings"),
-        ("short_refutations", "short_refutations_are_sound no_run_meets_what_is_refuted refuted_questions_have_answers"
-         " short_refutations_are_complete edges_have_names worked_short_refutations"),
+        ("lemma_refutations", "refutations_by_lemmas_are_sound no_run_meets_what_is_refuted refuted_questions_have_answers"
+         " refutations_by_lemmas_are_complete edges_have_names worked_refutations_by_lemmas"),
     ),
 }
 

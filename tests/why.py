@@ -8,7 +8,7 @@ The tests are those of the gallery and of the examples, some of examples/cycles.
 disjunctions, and without a condition, of x86-TSO and of sequential consistency:
 
 - a refutation refutes: each question has all its cases, each closing holds by the facts that are given there, each lemma is shown before it is
-  used, and it is printed as its definition has it, byte for byte (tests/reference/, short_reasons and short_refutations);
+  used, and it is printed as its definition has it, byte for byte (tests/reference/, printed_refutations and lemma_refutations);
 - of an execution the choices lead there, by `run` and by a machine in Python, its candidate is allowed by the relational model, what
   is asked is so, and it is printed as its definition has it;
 - `--json` says the same;
@@ -30,7 +30,7 @@ import time
 sys.dont_write_bytecode = True
 
 from checks import instruction_sets, judging
-from checks.reasons import reason_inputs, reason_slips, short_refutation_slips
+from checks.reasons import reason_inputs, reason_slips, lemma_refutation_slips
 from checks.tools import tool_runs
 from reference import candidates, conditions, litmus, printing, reading, reasons, refutations
 
@@ -209,7 +209,7 @@ def main():
     parser.add_argument("--seed", type=int, default=1)
     asked = parser.parse_args()
     programs, tally = judging.programs_in(asked), judging.Tally()
-    tally.add("the judge of reasons", short_refutation_slips.judge())
+    tally.add("the judge of reasons", lemma_refutation_slips.judge())
     tally.add("why", judging.judged(rows_of(reason_inputs.repository()), programs, asked.part, at_once=4))
     tally.add("why", judging.judged_in_turn(rows_of(inputs(asked.whole, asked.seed)), programs, asked.part, at_once=4))
     if asked.whole:

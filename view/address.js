@@ -52,6 +52,7 @@ function keepAddressSoon() {
 function keepAddress() {
   if (!bench.tso || (shown.run !== null && !drive.isOn && byId('line').value !== '')) return;
   drawShare();
+  followShown();
   const address = currentAddress(), isLong = address.length > LONGEST_ADDRESS;
   if (location.hash === '' && (isLong || address === kept.atFirst)) return;
   const isOther = kept.isNew || currentCommand() !== kept.command, put = isOther ? 'pushState' : 'replaceState';
@@ -67,9 +68,9 @@ async function copyLink() {
   const address = `${location.href.split('#')[0]}#${currentAddress()}`;
   try {
     await navigator.clipboard.writeText(address);
-    byId('copied').textContent = location.protocol === 'file:' ? `Copied. ${OF_A_FILE}` : 'Copied.';
+    sayDone('#copied', location.protocol === 'file:' ? `Copied. ${OF_A_FILE}` : 'Copied.');
   } catch {
-    byId('copied').textContent = 'This browser doesn\'t let the page copy: copy the address from the address bar.';
+    sayDone('#copied', 'This browser doesn\'t let the page copy: copy the address from the address bar.');
   }
 }
 
@@ -78,9 +79,9 @@ async function copyWords() {
   const isOfFile = currentCommand() !== 'tables';
   try {
     await navigator.clipboard.writeText(commandLine(currentCommand()));
-    byId('words-copied').textContent = `Copied.${isOfFile ? ` Save the input makes ${inputName(currentCommand())}.` : ''}`;
+    sayDone('#words-copied', `Copied.${isOfFile ? ` Save the input makes ${inputName(currentCommand())}.` : ''}`);
   } catch {
-    byId('words-copied').textContent = 'This browser doesn\'t let the page copy: mark the line, and copy it.';
+    sayDone('#words-copied', 'This browser doesn\'t let the page copy: mark the line, and copy it.');
   }
 }
 

@@ -5,9 +5,10 @@
 /**
  * The module and what it was made of, a long task while it runs, and the answer that is shown with its command; null while a machine
  * is driven on from it. `tracing` is what the module tells of steps: `step` alone and the whole trace, the whole `trace`, or null.
- * `hasLargerSet` is whether it has the larger set of instructions.
+ * `hasLargerSet` is whether it has the larger set of instructions. `took` is how many milliseconds the last long answer took, and `again` is the
+ * timer of one that comes by itself.
  */
-const bench = { tso: null, bytes: null, task: null, answer: null, tracing: null, hasLargerSet: false };
+const bench = { tso: null, bytes: null, task: null, answer: null, tracing: null, hasLargerSet: false, took: Infinity, again: null };
 
 const LONG = ['outcomes', 'sweep', 'counts', 'why'];
 
@@ -56,7 +57,7 @@ function answerNow(isAtStart = false) {
   if (wrong) byId('test-part').open = true;
   if (wrong) showSaid({ text: '', hint: '' }, wrong);
   else if (command !== 'tables' && byId('test').value.trim() === '') showAnswer(NO_TEST);
-  else if (LONG.includes(command)) showRefusalAlone();
+  else if (LONG.includes(command)) showRefusalAlone(command);
   else if (command === 'run' && countChoices(choicesText()) > LONG_RUN) begin();
   else if (command === 'run') answerRun(options, isAtStart === true);
   else showOpenAnswer(asked(options, inputOf(command)));
@@ -65,12 +66,25 @@ function answerNow(isAtStart = false) {
 /** What was asked when a notice was put that something is saved or copied. */
 let noticed = '';
 
+const NOTICES = '#words-copied, #copied, #report-copied, .page-saved';
+
+/** Says what was saved or copied last, at these places, and takes away what was said before. */
+function sayDone(places, said) {
+  for (const notice of document.querySelectorAll(NOTICES)) putText(notice, notice.matches(places) ? said : '');
+}
+
 /** Takes notices away that belong to another test or command. */
 function forgetNotices(command) {
   const asks = `${command} ${byId('test').value}`;
   if (asks === noticed) return;
   noticed = asks;
-  for (const notice of document.querySelectorAll('#words-copied, #copied, .page-saved')) notice.textContent = '';
+  sayDone(NOTICES, '');
+}
+
+/** Shows the words on the command line that ask the same. */
+function showWordsLine(command) {
+  const words = commandLine(command).split(' ');
+  byId('words-line').replaceChildren(...words.flatMap(word => [html('span', { class: 'unbroken' }, word), ' ']));
 }
 
 /** Shows what is asked: its line, its address and its words on the command line. Answers the settings as they are read. */
@@ -79,8 +93,9 @@ function showAsked(command) {
   drawShare();
   keepAddressSoon();
   showTestLine(command);
-  byId('words-line').replaceChildren(...commandLine(command).split(' ').flatMap(word => [html('span', { class: 'unbroken' }, word), ' ']));
+  showWordsLine(command);
   forgetNotices(command);
+  showLeft();
   byId('drive-it').hidden = command !== 'run';
   byId('begin').disabled = settings.wrong !== undefined;
   return settings;
@@ -96,12 +111,6 @@ function asked(options, input) {
 }
 
 const trapSentence = fault => `The module stopped before it gave an answer (${fault.message}). The page discards this instance; a new one gives the next answer.`;
-
-/** Of a long command that isn't begun: what is wrong with its test, or nothing. */
-function showRefusalAlone() {
-  const answer = asked({ command: 'run' }, inputOf(currentCommand()));
-  showAnswer(answer.status === Tso.STATUS.refused ? answer : { status: 0, text: '', hint: '' });
-}
 
 function answerRun(options, isAtStart) {
   const input = inputOf('run'), answer = asked(options, input), wasDrawn = shown.run !== null || drive.isOn;
@@ -141,7 +150,9 @@ function showAnswer(answer) {
   byId('brief').hidden = true;
   byId('states').replaceChildren();
   showWayBack();
-  markRefusal(answer.text);
+  markRefusal(answer);
+  const noted = answer.status === Tso.STATUS.refused || currentCommand() === 'tables' ? '' : noticeOf(inputOf('sweep'));
+  for (const place of document.querySelectorAll('.noticed')) putText(place, noted);
   if (answer.status === Tso.STATUS.refused) byId('test-part').open = true;
   showSaid(answer, isText ? '' : answer.text.trim());
   byId('report-part').hidden = !isText;
@@ -168,47 +179,6 @@ function showSaid({ status, hint }, said) {
   byId('hint').textContent = pageHint(hint);
 }
 
-// Long commands.
-
-function stopTask() {
-  bench.task?.stop();
-  bench.task = null;
-  endWorking();
-}
-
-/** Begins a long command in a worker. What is shown stays in sight until there is an answer. */
-async function begin() {
-  const command = currentCommand(), { options } = showAsked(command);
-  stopTask();
-  byId('about').open = false;
-  const input = inputOf(command), task = bench.task = beginTask(bench.bytes, questionsOf(command, options), input, tellProgress);
-  if (command === 'run') showAnswer({ status: 0, text: '', hint: '' });
-  beginWorking();
-  try {
-    const answers = await task.answers;
-    if (bench.task !== task) return;
-    stopTask();
-    showLong(command, answers, options, input);
-    if (command !== 'run' && !saidInBrief()) focusAnswer();
-  } catch (fault) {
-    if (bench.task !== task) return;
-    stopTask();
-    showAnswer({ status: null, text: '', hint: trapSentence(fault) });
-  }
-}
-
-/** Shows the answer to a long command. */
-function showLong(command, [answer, beside], options, input) {
-  const isGood = answer.status === Tso.STATUS.good, isUnended = answer.status === Tso.STATUS.unended;
-  if (command === 'run') showLongRun(answer, beside, options, input);
-  else if (command === 'outcomes' && isGood) showOutcomes(answer, beside, input);
-  else if (command === 'outcomes' && isUnended) showMet(answer, options.depth);
-  else if (command === 'counts' && (isGood || isUnended)) showCounts(answer);
-  else if (command === 'why' && isGood) showReason(answer, input);
-  else if (command === 'why' && isUnended) showUnfinished(command, answer);
-  else showOpenAnswer(answer);
-}
-
 /** A text whose first sentence stands out. */
 function firstStrong(text) {
   const end = text.search(/[.:] [A-Z]/) + 1;
@@ -218,9 +188,12 @@ function firstStrong(text) {
 /** The heading of an answer's sheet, to which the focus goes. */
 const answerTitle = text => html('h2', { class: 'answer-title', tabindex: -1 }, text);
 
+/** Whether what works, or has ended, was begun beside the test. */
+const isAskedBeside = () => byId('test-part').open && byId('test-part').contains(working.asker);
+
 /** Of an answer that was asked for beside the test: says the first sentence there, so that the test stays in sight. Answers whether it did. */
 function saidInBrief() {
-  const said = byId('states').querySelector('[role=status] strong')?.textContent ?? '', isBeside = byId('test-part').open && byId('test-part').contains(working.asker);
+  const said = byId('states').querySelector('[role=status] strong')?.textContent ?? '', isBeside = isAskedBeside();
   byId('brief').hidden = !isBeside || said === '';
   putText(byId('brief-said'), byId('brief').hidden ? '' : said);
   return !byId('brief').hidden;
@@ -232,19 +205,12 @@ function focusAnswer() {
   const top = lesson.told !== null ? byId('lesson') : byId('way-back').hidden ? title : byId('way-back');
   if (isLecture()) scrollTo(0, 0);
   else top.scrollIntoView({ block: 'start' });
-  const said = title.parentElement.querySelector('[role=status]');
+  const said = title === byId('report') ? null : title.parentElement.querySelector('[role=status]');
   if (said) {
     said.id = 'answer-said'; // it is read with the heading
     title.setAttribute('aria-describedby', said.id);
   }
   title.focus({ preventScroll: true });
-}
-
-/** Says of an answer that met its limit what it doesn't know, and what one can do. */
-function showUnfinished(command, answer) {
-  showAnswer(answer);
-  foldReport(answer);
-  byId('states').replaceChildren(...unfinishedParts(command));
 }
 
 /** Folds the text of an answer that is JSON and that a sheet shows. */
@@ -263,43 +229,6 @@ function backToRun() {
   if (ownRun.kept !== null) return backToShownRun();
   putCommand('run');
   answerNow();
-}
-
-/** What a task is asked: of a run its report and its line, of outcomes those of sequential consistency too. */
-function questionsOf(command, options) {
-  if (command === 'run') return [options, { ...options, json: true }];
-  if (command === 'outcomes') return [{ ...options, json: true }, ...(options.depth > 0 ? [{ ...options, depth: 0, json: true }] : [])];
-  return [['counts', 'why'].includes(command) ? { ...options, json: true } : options];
-}
-
-function showLongRun(answer, line, options, input) {
-  if (answer.status === Tso.STATUS.good && line !== undefined) {
-    showAnswer(answer);
-    if (showDriven(options, input, false)) return;
-  }
-  const isDrawn = answer.status === Tso.STATUS.good;
-  showAnswer(answer);
-  byId('report-part').open = !isDrawn;
-  byId('no-steps').hidden = !(bench.tracing && (isDrawn || answer.status === Tso.STATUS.unended));
-  if (isDrawn) showRun(readLine(line.text.trim()), line.text.trim());
-}
-
-function showOutcomes(answer, beside, test) {
-  const outcomes = readOutcomes(answer.text), sequential = beside?.status === Tso.STATUS.good ? readOutcomes(beside.text) : null;
-  showAnswer(answer);
-  foldReport(answer);
-  const said = [observationSentence(outcomes, test), sequential ? besideSentence(outcomes, sequential) : ''].join(' ').trim();
-  byId('states').replaceChildren(answerTitle('All final states'), html('p', { role: 'status' }, ...firstStrong(said)), ...statesSheet(outcomes, sequential, truthsOf(outcomes, test)));
-}
-
-/** Shows what a search had met when it came to its limit: some of the final states, or none. */
-function showMet(answer, depth) {
-  const met = readMet(answer.text);
-  if (met.states.length === 0) return showUnfinished('outcomes', answer);
-  showAnswer(answer);
-  foldReport(answer);
-  const truths = met.states.every(({ holds }) => typeof holds === 'boolean') ? met.states.map(({ holds }) => holds) : null;
-  byId('states').replaceChildren(answerTitle('Some final states'), html('p', { role: 'status' }, metSentence(met)), waysOn('outcomes'), ...statesSheet({ ...met, depth }, null, truths));
 }
 
 /** Asks a long command about the test, by one click from its run. */

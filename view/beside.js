@@ -32,7 +32,7 @@ function drawBesideChoices(options) {
   if (field.dataset.key !== key) {
     field.dataset.key = key;
     const option = (value, text) => html('option', { value: JSON.stringify(value) }, text);
-    field.replaceChildren(option(null, 'no other'), option(ABREAST, 'all four protocols'), ...others.map(other => option(other, machineName(other))));
+    field.replaceChildren(option(null, 'no other machine'), option(ABREAST, 'all four protocols'), ...others.map(other => option(other, machineName(other))));
   }
   const wanted = drive.beside === null || drive.beside === ABREAST ? drive.beside : others.find(other => machineName(other) === machineName(drive.beside));
   field.value = wanted === undefined ? NO_OTHER : JSON.stringify(wanted);
@@ -42,6 +42,15 @@ function drawBesideChoices(options) {
 function putBeside(text) {
   putDrive({ beside: JSON.parse(text) });
   beginDrive(firstHistory(), drive, drive.count);
+}
+
+/** Where machines stand abreast: the programs, once for all of them, each with its next instruction marked. */
+function showPrograms() {
+  const { programs } = firstHistory(), { cores } = firstHistory().machineAfter(drive.count), isAbreast = drive.histories.length > 2;
+  byId('programs').hidden = !isAbreast;
+  if (!isAbreast) return;
+  const lines = (program, core) => program.map((text, at) => html('code', at === cores[core].place ? { class: 'next' } : {}, text));
+  byId('programs').replaceChildren(...programs.map((program, core) => html('span', {}, html('strong', {}, `P${core}`), ' ', ...lines(program, core))));
 }
 
 /** Marks of each machine the lines of its caches, and its sentence, where they differ from those of the first. */

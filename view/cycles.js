@@ -61,8 +61,9 @@ const drawLetters = (chip, edge, at) => svg('g', { class: `edge edge-${edge.rela
 const drawPoint = relation => svg('marker', { id: `point-${relation}`, viewBox: '0 0 8 8', refX: 7, refY: 4, markerWidth: 9, markerHeight: 9, markerUnits: 'userSpaceOnUse', orient: 'auto' },
   svg('path', { class: `point-${relation}`, d: 'M0 0L8 4L0 8Z' }));
 
-function drawLane(layout, program, core) {
-  const { lane, tops, height } = layout, left = core * lane;
+/** The lane of a core with its program; `at` is its place in the picture. */
+function drawLane(layout, program, at, core) {
+  const { lane, tops, height } = layout, left = at * lane;
   return svg('g', {}, svg('rect', { class: 'lane', x: left + 1, y: 1, width: lane, height: height - 2 }), textAt({ class: 'head', x: left + lane / 2, y: 21 }, 17, `P${core}`),
     ...program.map((text, place) => fittingText({ class: 'faint over', x: left + lane / 2, y: tops[place] + 14 }, 13, `${place}  ${text}`, lane - 2 * layout.side)));
 }
@@ -73,12 +74,34 @@ function drawEvent({ event, ...box }) {
     fittingText({ x: box.x + box.width / 2, y: box.y + 18 }, 14, event.text.slice(event.text.indexOf(' ') + 1), box.width - 8));
 }
 
+const MANY_CORES = 4; // with more than these, cores without an edge are left out
+const MANY_EDGES = 20; // with more than these, an execution is drawn with the edges at what its condition names
+
+/** The cores that are drawn: all of a few, and of many those that have an event, unless all are wanted. */
+function drawnCores(programs, edges, isAll) {
+  const cores = programs.map((_, core) => core), used = new Set(eventsOf(edges).map(({ core }) => core));
+  return isAll || programs.length <= MANY_CORES ? cores : cores.filter(core => used.has(core));
+}
+
+/** The cores that aren't drawn at first, in words, and that they have no arrow. */
+function leftOutSaid(programs, edges) {
+  const drawn = drawnCores(programs, edges, false), left = programs.map((_, core) => core).filter(core => !drawn.includes(core)).map(core => `P${core}`);
+  return `${listed(left)} ${left.length === 1 ? 'has' : 'have'} no arrow`;
+}
+
+/** An event's text with its lane in the place of its core. */
+const inLane = (cores, text) => text.replace(/^P(\d)/, (_, core) => `P${cores.indexOf(Number(core))}`);
+
 /** Edges over programs, as a figure of this name. Where there is less room the picture is made smaller, and at last scrolled. */
-function drawEdges(programs, edges, name) {
-  const layout = layOutEvents(programs, edges), ways = edgeWays(layout, edges), chips = chipsOf(layout, edges, ways);
+function drawEdges(programs, edges, name, isAll = false) {
+  const cores = drawnCores(programs, edges, isAll), shown = cores.map(core => programs[core]);
+  const laid = edges.map(edge => ({ ...edge, from: inLane(cores, edge.from), to: inLane(cores, edge.to) }));
+  const layout = layOutEvents(shown, laid), ways = edgeWays(layout, laid), chips = chipsOf(layout, laid, ways);
   const used = usedRelations(edges);
   const picture = svg('svg', { class: 'picture', viewBox: `0 0 ${layout.width} ${layout.height}`, role: 'img', 'aria-label': `${name}. The text beside it says the same.` },
-    svg('defs', {}, ...used.map(drawPoint)), ...edges.map((edge, at) => drawWay(ways[at], edge, at)), ...programs.map((program, core) => drawLane(layout, program, core)), ...[...layout.boxes.values()].map(drawEvent), ...edges.map((edge, at) => drawLetters(chips[at], edge, at)));
+    svg('defs', {}, ...used.map(drawPoint)), ...edges.map((edge, at) => drawWay(ways[at], edge, at)),
+    ...shown.map((program, lane) => drawLane(layout, program, lane, cores[lane])), ...[...layout.boxes.values()].map(drawEvent),
+    ...edges.map((edge, at) => drawLetters(chips[at], edge, at)));
   picture.style.width = `max(100%, ${EVENTS.smaller * layout.width}px)`;
   const figure = html('figure', { tabindex: 0, 'aria-label': name }, picture);
   figure.style.flex = `0 1 ${layout.width}px`; // in a lecture it takes the whole width
@@ -88,27 +111,93 @@ function drawEdges(programs, edges, name) {
 /** What the letters at the edges mean. */
 function relationList(edges) {
   const used = usedRelations(edges);
-  return html('ul', { class: 'small relations', 'aria-label': 'Relations' }, ...used.map(relation => html('li', {}, html('span', { class: `relation edge-${relation}` }, relation), ` ${relationNamed(relation).means}`)));
+  const item = relation => html('li', {}, html('span', { class: `relation edge-${relation}` }, relation), ` ${meaningOf(relation, edges)}`);
+  return html('ul', { class: 'small relations', 'aria-label': 'Relations' }, ...used.map(item));
+}
+
+/** The edges of an execution that matter for what a condition names: those at the last load into each of its registers, and at the last write
+ * to each of its locations. All, where these are none. */
+function askedEdges(programs, edges, places, coherence) {
+  const lastInto = (core, register) => (programs[core] ?? []).findLastIndex(text => writtenBy(text).includes(register));
+  const lastTo = location => (coherence[location] ?? []).slice(-1).map(text => text.split(' ')[0]);
+  const wanted = places.flatMap(({ core, register, location }) => (location === undefined ? [`P${core}:${lastInto(core, register)}`] : lastTo(location)));
+  const found = edges.filter(({ from, to }) => [from, to].some(text => wanted.includes(text.split(' ')[0])));
+  return found.length > 0 ? found : edges;
+}
+
+/** An execution as a figure, which at first leaves out what doesn't matter, with a box that shows all; `tell` is told which edges are drawn. */
+function drawExecution(programs, edges, few, name, tell = () => {}) {
+  const draw = isAll => drawEdges(programs, isAll ? edges : few, name, isAll), isWhole = drawnCores(programs, few, false).length === programs.length;
+  if (few.length === edges.length && isWhole) return draw(true);
+  const fewer = few.length < edges.length ? [`Drawn are ${few.length} of ${edges.length} arrows, those at what is asked for.`] : [];
+  const left = [...fewer, ...(isWhole ? [] : [`${leftOutSaid(programs, few)}${fewer.length > 0 ? ' of these' : ''}: left out.`])];
+  const box = html('input', { type: 'checkbox' }), place = html('div', {}, draw(false));
+  const words = html('p', { class: 'buttons small' }, html('span', {}, left.join(' ')), html('label', {}, box, ' Draw all'));
+  const part = html('div', { class: 'drawn-part' }, words, place);
+  const take = () => { part.style.flex = place.firstChild.style.flex; };
+  box.addEventListener('change', () => {
+    place.replaceChildren(draw(box.checked));
+    tell(box.checked ? edges : few);
+    take();
+  });
+  take();
+  return part;
 }
 
 /** A cycle, drawn and told edge by edge. It shows so many of its edges, at first one. */
 class CyclePanel {
   constructor(programs, cycle) {
     this.cycle = cycle;
-    this.picture = drawEdges(programs, cycle, `A cycle of ${cycle.length} edges`);
+    this.programs = programs;
+    this.place = html('div', { class: 'pictured-cycle' });
+    this.draw(false);
     this.sentences = html('ol', { class: 'edges', 'aria-label': 'The edges of the cycle' }, ...cycle.map(edge => html('li', {}, html('span', { class: `relation edge-${edge.relation}` }, edge.relation), ` ${edgeSentence(edge)}`)));
     this.end = html('p', {}, `So ${cycle[0].from} would be before itself. No order allows that.`);
     this.count = html('span', {});
-    this.said = html('p', { class: 'unshown', role: 'status' });
-    this.buttons = ['First', 'Back', 'Next', 'All'].map(name => html('button', { type: 'button', 'data-edges': name.toLowerCase() }, name));
-    this.element = html('div', { class: 'cycle' }, html('div', { class: 'buttons' }, ...this.buttons, this.count), this.said,
-      html('div', { class: 'beside' }, this.picture, html('div', { class: 'told-edges' }, this.sentences, this.end, relationList(cycle))));
+    this.said = html('p', { class: 'edge-said', role: 'status' });
+    this.buttons = Object.entries({ first: 'First arrow', back: 'Arrow back', next: 'Next arrow', all: 'All arrows' })
+      .map(([name, text]) => html('button', { type: 'button', 'data-edges': name }, text));
+    this.element = html('div', { class: 'cycle' }, html('div', { class: 'buttons' }, ...this.buttons, this.count, ...this.allCores()), this.said,
+      html('div', { class: 'beside' }, this.place, html('div', { class: 'told-edges' }, this.sentences, this.end, relationList(cycle))));
     this.show(1);
+  }
+
+  draw(isAll) {
+    this.picture = drawEdges(this.programs, this.cycle, `A cycle of ${this.cycle.length} edges`, isAll);
+    this.place.replaceChildren(this.picture);
+    this.place.style.flex = this.picture.style.flex;
+  }
+
+  /** Where cores are left out, a box that shows all of them. */
+  allCores() {
+    const cores = drawnCores(this.programs, this.cycle, false).length;
+    if (cores === this.programs.length) return [];
+    const box = html('input', { type: 'checkbox' });
+    box.addEventListener('change', () => {
+      this.draw(box.checked);
+      this.show(this.shown);
+    });
+    return [html('label', { class: 'small' }, box, ` All ${this.programs.length} cores (${leftOutSaid(this.programs, this.cycle)})`)];
+  }
+
+  /** Scrolls the picture to the arrow that is shown last, where it goes on to the side. */
+  keepInSight() {
+    const arrow = this.picture.querySelector('[data-edge].now'), { left, right } = this.picture.getBoundingClientRect();
+    if (!arrow || this.picture.scrollWidth <= this.picture.clientWidth) return;
+    const box = arrow.getBoundingClientRect();
+    if (box.left < left || box.right > right) this.picture.scrollLeft += (box.left + box.right - left - right) / 2;
   }
 
   move(way) {
     this.show({ first: 1, back: this.shown - 1, next: this.shown + 1, all: this.cycle.length }[way]);
-    this.said.textContent = `${edgeSentence(this.cycle[this.shown - 1])}${this.shown === this.cycle.length ? ` ${this.end.textContent}` : ''}`;
+  }
+
+  /** What the arrow that is shown last says: in sight where the sentences beside the picture aren't, and for readers of screens. */
+  say() {
+    const edge = this.cycle[this.shown - 1];
+    this.said.replaceChildren(html('span', { class: `relation edge-${edge.relation}` }, edge.relation), ` ${edgeSentence(edge)}`,
+      html('span', { class: 'faint' }, ` ${meaningOf(edge.relation, this.cycle)}`),
+      ...(this.shown === this.cycle.length ? [' ', html('strong', {}, this.end.textContent)] : []));
   }
 
   show(count) {
@@ -126,6 +215,8 @@ class CyclePanel {
     });
     this.end.classList.toggle('later', !isAll);
     this.count.textContent = `Step ${shown} of ${this.cycle.length}`;
+    this.say();
+    this.keepInSight();
     const isOff = { first: shown === 1, back: shown === 1, next: isAll, all: isAll };
     for (const button of this.buttons) button.disabled = isOff[button.dataset.edges];
   }

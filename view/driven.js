@@ -11,11 +11,12 @@ function showDrive() {
   const step = history.steps[count - 1];
   const before = step && history.machineAfter(count - 1);
   const said = step ? `${step.choice}: ${stepSentences(step, before, history.programs, isPlain).join(' ')}` : count === 0 ? startSentence(history) : 'The first machine\'s test has ended.';
-  byId('sentence').textContent = lessonTells() ? '' : ofFirst(history) + said + nextSentence();
+  byId('sentence').textContent = lessonTells() ? '' : ofFirst(history, step ? ', ' : ': ') + said + nextSentence();
   byId('count').textContent = `${count} ${count === 1 ? 'choice' : 'choices'} made`;
   showMoves();
   showBranches();
   markDifferences();
+  showPrograms();
   markWanted();
   showEnd(history);
   showTask(history, count, shown.run);
@@ -24,7 +25,7 @@ function showDrive() {
 }
 
 /** Where machines stand abreast: that what is said is said of the first. */
-const ofFirst = ({ options }) => (drive.histories.length > 2 ? `${options.protocol.toUpperCase()}, ` : '');
+const ofFirst = ({ options }, sign) => (drive.histories.length > 2 ? `${options.protocol.toUpperCase()}${sign}` : '');
 
 /** Scrolls to what the last choice changed. For that the browser has to lay the page out, so it comes after all changes. */
 function keepInSight() {
@@ -82,6 +83,8 @@ function makePicture() {
 function showPicture() {
   if (drawn.picture === null || drawn.picture.isTooNarrowFor(firstHistory())) makePicture();
   drawn.picture.show(firstHistory(), drive.count);
+  const isOver = firstHistory().hasEnded(drive.count), isEmpty = drawn.picture.rows.length === 0;
+  putText(byId('order-title'), isOver ? 'Memory order' : `Memory order so far${isEmpty ? ': nothing yet' : ''}`);
   byId('frame').classList.toggle('full', drawn.picture.bottom - HEAD > (isLecture() ? LECTURE_MOST : FRAME_MOST) * innerHeight);
 }
 

@@ -70,6 +70,8 @@ function seeChoices(isInSight) {
 
 const WIDE_LINE = 78; // letters, from which on a test has the whole width
 
+const ROWS = { least: 12, most: 18 }; // of the field of a test, which grows with it
+
 /** Gives a test with long lines, as one of many cores has, the whole width. */
 const showWidth = () => byId('test-part').classList.toggle('wide', byId('test').value.split('\n').some(line => line.length > WIDE_LINE));
 
@@ -81,6 +83,7 @@ function drawLines(id, marked) {
   const count = countLines(field.value), key = `${count} ${marked}`;
   if (gutter.dataset.key === key) return;
   gutter.dataset.key = key;
+  if (id === 'test') field.rows = Math.min(ROWS.most, Math.max(ROWS.least, count));
   const numbers = (from, to) => Array.from({ length: Math.max(0, to - from + 1) }, (_, at) => `${from + at}\n`).join('');
   if (marked === null || marked > count) gutter.replaceChildren(numbers(1, count));
   else gutter.replaceChildren(numbers(1, marked - 1), html('span', { class: 'refused' }, `▶${marked}\n`), numbers(marked + 1, count));
@@ -96,6 +99,7 @@ function placeLines(id) {
   byId(id + '-lines').scrollTop = field.scrollTop;
   band.style.top = `${above + (Number(band.dataset.line) - 1) * pitch - field.scrollTop}px`;
   band.style.height = `${pitch}px`;
+  band.style.setProperty('--left', `${-field.scrollLeft}px`);
 }
 
 /** Where a refusal is: the field and its line, or the field and its word. */
@@ -105,15 +109,54 @@ function placeOfRefusal(line) {
   return found[3] ? { field: 'choices', word: Number(found[3]) } : { field: found[1] === 'order' ? 'given' : 'test', line: Number(found[2]) };
 }
 
+/** The cells of a row of programs, each with its text and where that begins. */
+function cellsOf(line) {
+  let from = 0;
+  return line.replace(/;.*$/, '').split('|').map((text, core) => {
+    const cell = { text: text.trim(), from: from + text.length - text.trimStart().length, core };
+    from += text.length + 1;
+    return cell;
+  });
+}
+
+/** Of a test's line that is refused the cell at fault, where the hint begins with one cell of it, or with a word that one cell alone has; else null. */
+function cellAtFault(line, hint) {
+  if (/^X86|[{}]/.test(line)) return null; // no row of programs
+  const said = hint.replace(/^hint: (line \d+: )?'?/, ''), [word] = said.split(/[\s:,]/), cells = cellsOf(line).filter(({ text }) => text !== '');
+  const quoted = cells.filter(({ text }) => said.startsWith(text) && !/\w/.test(said[text.length] ?? ''));
+  const commaless = said.startsWith('no comma') ? cells.filter(({ text }) => /^\S+\s+[^\s,]+\s+[^,]+$/.test(text)) : [];
+  const having = cells.filter(({ text }) => text.toLowerCase().split(/\W+/).includes(word.toLowerCase()));
+  return [quoted, commaless, having].find(found => found.length === 1)?.[0] ?? null;
+}
+
+/** Underlines the cell at fault in the band of its line. */
+function markCell(cell) {
+  const band = byId('test-band');
+  band.replaceChildren(...(cell === null ? [] : [html('span', {})]));
+  if (cell === null) return;
+  const [mark] = band.children;
+  mark.style.left = `${cell.from}ch`;
+  mark.style.width = `${cell.text.length}ch`;
+}
+
 /** The refused word of the choices, as it is written. */
 function wordAt(text, number) {
   return text.split(/[ \t\n\r]+/).filter(word => word !== '')[number - 1];
 }
 
-/** Marks what is refused, or nothing. */
-function markRefusal(line) {
-  const place = placeOfRefusal(line);
+/** What is refused, in plain words: the line, the core whose cell is at fault where the hint tells it, and why. Empty where nothing is. */
+function plainRefusal(place, cell, line) {
+  const why = FAULTS[line.trim().split(' ').at(-1)];
+  if (place?.line === undefined || why === undefined) return '';
+  return `${place.field === 'given' ? 'Order, line' : 'Line'} ${place.line}${cell === null ? '' : `, P${cell.core}`}: ${why}.`;
+}
+
+/** Marks what is refused, or nothing, and says it in plain words. */
+function markRefusal({ text: line, hint }) {
+  const place = placeOfRefusal(line), cell = place?.field === 'test' ? cellAtFault(byId('test').value.split('\n')[place.line - 1] ?? '', hint ?? '') : null;
+  byId('plain').textContent = plainRefusal(place, cell, line);
   for (const id of ['test', 'given']) drawLines(id, place?.field === id && place.line ? place.line : null);
+  markCell(cell);
   for (const id of ['test', 'choices', 'given']) byId(id).setAttribute('aria-invalid', String(place?.field === id));
   const word = place?.word ? wordAt(choicesText(), place.word) : undefined;
   byId('refused-word').textContent = word === undefined ? '' : `Word ${place.word} is ${word}`;

@@ -16,6 +16,8 @@ function putFormats(known) {
   Object.assign(formats, { texts: { printed: null, json: null, ...known }, task: null });
   byId('formats').hidden = !IN_BOTH.includes(currentCommand());
   if (byId('formats').hidden) byId('as-printed').checked = true;
+  byId('report-copied').textContent = '';
+  showWordsLine(currentCommand());
 }
 
 /** Asks for a form that isn't known: of a run at once, of a search in a worker. */
@@ -42,4 +44,19 @@ function saveFormat() {
   saveText(fileName(testName(), isJson ? '.json' : '.txt'), byId('report').textContent, isJson ? 'application/json' : 'text/plain');
 }
 
-byId('formats').addEventListener('change', () => showReport());
+/** Copies what stands in the field of the report. */
+async function copyReport() {
+  try {
+    await navigator.clipboard.writeText(byId('report').textContent);
+    sayDone('#report-copied', 'Copied.');
+  } catch {
+    sayDone('#report-copied', 'This browser doesn\'t let the page copy: mark the text, and copy it.');
+  }
+}
+
+byId('formats').addEventListener('change', () => {
+  byId('report-copied').textContent = '';
+  showReport();
+  showWordsLine(currentCommand());
+});
+byId('copy-report').addEventListener('click', copyReport);

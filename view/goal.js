@@ -2,10 +2,11 @@
 
 // The task that stands over a test with a condition: to end as it asks. Where that can't be, or nobody knows yet, it is a question.
 
-/** Tasks that have words of their own, by the test's name and its proposition. */
+/** Tasks that have words of their own, by the test's name and its proposition. One that speaks of misses is for who sees the caches. */
 const TASKS = {
   'SB 0:EAX=0 /\\ 1:EAX=0': 'Make both loads read 0.',
   'SBF 0:EAX=0 /\\ 1:EAX=0': 'Make both loads read 0, past the fences.',
+  'false-sharing 1:EAX=1': 'Let each core use its own word alone, and count the misses at “Bus”.',
 };
 
 /** The places of a proposition with the words that it wants there, where it speaks of nothing else; else null. */
@@ -25,7 +26,7 @@ const quantifierOf = test => /^[ \t]*(~[ \t]*exists|exists|forall)\b/m.exec(test
 /** What a task asks for, in words. `forall` is shown wrong by any other end. */
 function taskSentence(name, proposition, quantifier) {
   const own = TASKS[`${name} ${proposition}`], wanted = wantedWords(proposition);
-  if (own && quantifier === 'exists') return own;
+  if (own && quantifier === 'exists' && (!own.includes('misses') || showsCaches(drivenMachines()))) return own;
   const said = wanted ? wantedSentence(wanted) : proposition;
   return quantifier === 'forall' ? `End otherwise than with ${said}.` : `End with ${said}.`;
 }
@@ -89,13 +90,19 @@ function missedSentence(history, count, quantifier) {
   return `Not met this time: ${listed(missed)}.`;
 }
 
+/** That it is done; where misses were to be counted, how many there are. */
+function doneWord(history, count) {
+  const isCounted = TASKS[`${testName()} ${history.proposition}`]?.includes('misses') && showsCaches(drivenMachines());
+  return isCounted ? `Done, with ${tallyText(history.steps, count).replace('so far ', '')}.` : 'Done.';
+}
+
 /** What is said after a try. */
 function afterTry(history, count, met, quantifier) {
   if (met === null) return lostSentence(history, count, quantifier);
   if (!met) return ` ${missedSentence(history, count, quantifier)} Go back, or make other choices.`;
   const claim = quantifier === 'exists' ? '' : ' So the claim of the test is wrong.';
   const passes = passesOf(history.order.slice(0, history.momentAfter(count).rows), '').filter(sentence => sentence !== '');
-  return ` Done.${claim} ${passes.join(' ')}`.trimEnd();
+  return ` ${doneWord(history, count)}${claim} ${passes.join(' ')}`.trimEnd();
 }
 
 /** Shows the task, and when it is met why, by what the loads passed. `run` is the run, where it has ended. After a try that missed what

@@ -9,8 +9,42 @@ const IN_WORDS_OF_THE_PAGE = [
   ['put a line ==== between the test and the choices', 'choices stand in their own field'],
   ['put a line ==== between the test and the order', 'an order stands in its own field'],
   ['tso why needs no states', 'why needs no states'],
+  ['the tool import', 'the program tools/import of a checkout'],
   [' after ====: ', ' of it: '],
 ];
+
+/** Why a line is refused, by the program's name for it. */
+const FAULTS = {
+  NoHeader: 'the first line has to be X86, a space, and a name', Unclosed: 'a comment, the initial state or a row doesn’t end',
+  BadToken: 'something here can’t be read',
+  BadInit: 'this doesn’t fit into the initial state', BadHeaderRow: 'the row of cores isn’t written as P0 | P1 ;',
+  WrongCells: 'this row hasn’t one cell for each core',
+  BadInstruction: 'this instruction can’t be read', BadNumber: 'a number is over 4294967295', TwiceInit: 'something gets its value twice',
+  NoSuchCore: 'there is no such core',
+  TooLarge: 'something is over its limit', BadCondition: 'this doesn’t fit into the condition', Trailing: 'something comes after the end of the test',
+};
+
+/** What was asked last for a notice: the test, and what the hint said. */
+const notice = { test: null, said: '' };
+
+/** What a condition says of registers that no instruction of their core writes: each keeps its word of the start, whatever one meant. */
+function unwrittenSaid(test) {
+  const { programs, proposition, start } = readTest(test), named = [...(proposition ?? '').matchAll(/(\d)\s*:\s*([A-Z]{3})/g)];
+  const unwritten = named.filter(([, core, register]) => !programs[core].flatMap(writtenBy).includes(register));
+  const words = new Map(unwritten.map(([, core, register]) => [`${core}:${register}`, { core, word: start.cores[core].registers[register] }]));
+  return [...words].map(([name, { core, word }]) => `the condition names ${name}, which no instruction of P${core} writes: it stays ${word}.`);
+}
+
+/** What is said of a condition that names what nothing writes; empty where it names no such thing. The test is answered all the same, and
+ * an answer in JSON has no hint of locations: so a sweep of one short run is asked. */
+function noticeOf(test) {
+  if (notice.test === test) return notice.said;
+  const found = /the condition names [^]*stays \d+/.exec(asked({ command: 'sweep', seeds: 1 }, test).hint);
+  const said = [...(found === null ? [] : [`${found[0]}.`]), ...unwrittenSaid(test)];
+  const line = test.split('\n').findIndex(text => quantifierOf(text) !== null) + 1;
+  Object.assign(notice, { test, said: said.length === 0 ? '' : `Note, line ${line}: ${said.join(' And ')}` });
+  return notice.said;
+}
 
 /** A hint of the module, in words of the page; an option of the command line goes by its field's name. */
 function pageHint(hint) {

@@ -16,7 +16,7 @@ const lectureButton = () => nameLecture(html('button', { type: 'button', 'data-l
 function putLecture(isOn) {
   document.documentElement.classList.toggle('lecture', isOn);
   document.querySelectorAll('[data-lecture]').forEach(nameLecture);
-  if (isOn) byId('test-part').open = false;
+  if (isOn) byId('test-part').open = byId('about').open = false;
   if (shown.run || drive.isOn) redraw();
   scrollTo(0, 0);
 }
@@ -31,6 +31,12 @@ async function toggleLecture() {
   } catch {
     // it stays in its window
   }
+}
+
+/** Opens a list that was saved: several tests are a lecture, so that a clicker steps them at once. */
+function openLecture() {
+  openListed(0);
+  if (taught.list.length > 1) putLecture(true);
 }
 
 // A clicker has the keys PageUp and PageDown: they step what is shown.
@@ -48,16 +54,22 @@ const SCROLLED = 0.8; // of the window's height, where a clicker has nothing to 
 
 const listedNext = () => taught.list[playlist.at + 1];
 
-/** What a clicker does to a sheet that isn't a machine: it scrolls, and after its end comes the next test of the list. */
+/** What a clicker comes to before the start of a sheet: the test before it in the list, or the run of which the sheet is. */
+const clickBefore = () => (isOfEntry() ? openListed(playlist.at - 1, true) : backToRun());
+
+/** What a clicker does to a sheet that isn't a machine: it scrolls, and after its end comes the next test of the list, and before its start the one before. */
 function clickSheet(isOn) {
   const isEnd = scrollY + innerHeight >= document.documentElement.scrollHeight - 1;
   if (isOn && isEnd && listedNext() !== undefined) return openListed(playlist.at + 1);
+  if (!isOn && scrollY === 0) return clickBefore();
   return scrollBy({ top: (isOn ? SCROLLED : -SCROLLED) * innerHeight });
 }
 
 /** Where no choice is known: says what to press. By a second press comes the next test of the list. */
 function clickUnknown() {
-  const next = listedNext(), said = `No ${drive.count === 0 ? '' : 'more '}choices yet: press a step or a drain of a core.${next === undefined ? '' : ` Once more for the next test: ${next.name}.`}`;
+  const next = listedNext(), onward = next === undefined ? '' : ` Once more for the next test: ${next.name}.`;
+  const known = `No ${drive.count === 0 ? '' : 'more '}choices yet, so PageDown has nothing to step`;
+  const said = `${known}: press a step or a drain of a core, or begin a lesson.${onward}`;
   if (next !== undefined && byId('sentence').textContent === said) return openListed(playlist.at + 1);
   return sayOfDriving(said);
 }
@@ -65,12 +77,14 @@ function clickUnknown() {
 /** Steps the cycle that is drawn, the lesson, or the machine; after the end of either comes the next test of the list. */
 function click(isOn) {
   const { cycle } = sheet, isDrawn = cycle !== null && cycle.element.isConnected && !drive.isOn, isCycleOver = isDrawn && isOn && cycle.shown === cycle.cycle.length;
+  if (isDrawn && !isOn && cycle.shown === 1 && lesson.told === null) return clickSheet(isOn);
   if (isDrawn && !(isCycleOver && (lesson.told !== null || listedNext() !== undefined))) return cycle.move(isOn ? 'next' : 'back');
   if (lesson.told !== null) return clickLesson(isOn);
   if (isCycleOver) return openListed(playlist.at + 1);
   if (!drive.isOn) return clickSheet(isOn);
   const isLast = isOn && drive.count === drive.words.length;
   if (isLast) return isAtEnd(drive) ? openListed(playlist.at + 1) : clickUnknown();
+  if (!isOn && drive.count === 0) return openListed(playlist.at - 1, true);
   return moveDriven(isOn ? 'forward' : 'back');
 }
 

@@ -16,8 +16,15 @@ const lessonNamed = name => lessonsHere().find(each => each.name === name);
 const nextLesson = () => lessonsHere()[lessonsHere().indexOf(lesson.told) + 1];
 const stepNow = () => lesson.told.steps[lesson.at];
 
-/** The choices that the steps before one make. */
-const choicesBefore = (steps, at) => steps.slice(0, at).flatMap(step => step.do ?? []);
+/** The number of the step before which the machine begins anew: the last one up to a step that has a test of its own, or the first. */
+const beginOf = (steps, at) => Math.max(0, steps.findLastIndex((step, each) => each <= at && step.test !== undefined));
+/** The choices that the steps before one make, on its test. */
+const choicesBefore = (steps, at) => steps.slice(beginOf(steps, at), at).flatMap(step => step.do ?? []);
+/** What a step's machine is made of: the lesson, or the step's own test in its place. */
+function testOf(told, at) {
+  const { test } = told.steps[beginOf(told.steps, at)];
+  return test === undefined ? told : { test, settings: told.settings };
+}
 
 /** What a step's button asks the proved code. */
 const LESSON_SHOWS = {
@@ -32,7 +39,7 @@ function beginLesson(name, at = 0) {
   if (!told) return;
   putLesson({ ...IN_LESSON, told });
   cachesView.wanted = told.caches ? true : null;
-  byId('about').open = false;
+  byId('about').open = byId('test-part').open = false;
   enterStep(Math.min(Math.max(0, at), told.steps.length - 1));
   byId('lesson-title').focus();
 }
@@ -53,8 +60,9 @@ function putTestOf({ text, test, settings = {} }, choices) {
 function enterStep(at) {
   const { steps } = lesson.told, isAfterShown = at === lesson.at + 1 && steps[lesson.at].show !== undefined && lesson.isDone;
   putLesson({ at, answer: null, isDone: steps[at].say !== undefined && steps[at].do === undefined && steps[at].show === undefined });
-  if (!isAfterShown) putTestOf(lesson.told, choicesBefore(steps, at));
+  if (!isAfterShown) putTestOf(testOf(lesson.told, at), choicesBefore(steps, at));
   drawLesson();
+  lookAtPicture();
   keepAddressSoon();
 }
 
@@ -68,14 +76,38 @@ function endLesson() {
   keepAddressSoon();
 }
 
-/** Leaves the lesson for its test at its start, with the task open. */
+/** The lesson that was left last, at which step, and its test; null before. */
+let leftLesson = null;
+
+/** Leaves the lesson: its run stays, with the task over it, a way back to the lesson, and one to the first test. */
 function leaveLesson() {
+  const { told: { name, title }, at } = lesson;
   endLesson();
-  putChoices('');
+  leftLesson = { name, title, at, test: byId('test').value };
+  showLeft();
+  byId('left-lesson').scrollIntoView({ block: 'nearest' });
+  byId('lesson-again').focus({ preventScroll: true });
+}
+
+/** Shows the first test, as the page does when it opens. */
+function toFirstTest() {
+  forgetOwnRun();
+  beginAddress();
+  putDrive({ beside: null });
+  putInput(partsOf(EXAMPLES[FIRST_TEXT]).test);
+  putSettings([]);
   putCommand('run');
   answerNow(true);
   byId('run').scrollIntoView({ block: 'nearest' });
-  (document.querySelector('[data-choice]:enabled') ?? byId('frame')).focus({ preventScroll: true });
+}
+
+/** Says whose test this is after a lesson was left, until there is another test. */
+function showLeft() {
+  const isShown = leftLesson !== null && lesson.told === null && leftLesson.test === byId('test').value;
+  byId('left-lesson').hidden = !isShown;
+  if (!isShown) return;
+  putText(byId('left-said'), `This is the test of the lesson “${leftLesson.title}”, and your run goes on.`);
+  byId('to-first-test').hidden = byId('test').value === partsOf(EXAMPLES[FIRST_TEXT]).test;
 }
 
 /** Whether a choice is one that the lesson waits for, or that is free. At the last step each is. */
@@ -101,6 +133,7 @@ function lessonDid(word) {
   if (lesson.told === null || lesson.isDone || stepNow().do !== word) return;
   putLesson({ isDone: true });
   drawLesson();
+  lookAtPicture();
 }
 
 function answerLesson(answer) {
@@ -122,7 +155,7 @@ function showInLesson() {
 /** What is said after an answer: whether it is right, where there is a right one, and why. */
 function judgedAnswer({ right, because }, answer) {
   if (right === undefined) return because;
-  return `${answer === right ? 'Right.' : `Not so: ${right}.`} ${because}`;
+  return `${answer === right ? 'Right.' : `No. The answer is “${right}”.`} ${because}`;
 }
 
 /** Says what a step tells, and when it is done what came of it. */
@@ -159,13 +192,22 @@ function showNext() {
   byId('lesson-back').disabled = lesson.at === 0;
 }
 
+/** Brings the picture into sight where a step speaks of it, and marks it. */
+function lookAtPicture() {
+  const isLooked = lesson.told !== null && lesson.isDone && stepNow().look === 'picture';
+  byId('frame').classList.toggle('looked', isLooked);
+  if (isLooked) byId('frame').scrollIntoView({ block: 'nearest' });
+}
+
 function drawLesson() {
   const isOn = lesson.told !== null;
   document.documentElement.classList.toggle('learning', isOn);
+  document.documentElement.classList.toggle('questioned', isOn && !lesson.isDone && stepNow().ask !== undefined);
   byId('lesson').hidden = !isOn;
+  showLeft();
   markWanted();
   if (!isOn) return;
-  putText(byId('lesson-title'), lesson.told.title);
+  putText(byId('lesson-title'), lesson.told.steps[beginOf(lesson.told.steps, lesson.at)].title ?? lesson.told.title);
   const { do: word, ask: question } = stepNow(), first = lesson.isDone ? '' : word !== undefined ? `: first press ${word}` : question !== undefined ? ': first give an answer' : ': first press the button';
   putText(byId('lesson-place'), `Step ${lesson.at + 1} of ${lesson.told.steps.length}${first}`);
   showSentences();
@@ -190,12 +232,20 @@ function focusStep() {
   (document.querySelector('[data-choice].wanted') ?? byId('lesson-answers').querySelector('button') ?? byId('lesson-next')).focus();
 }
 
+/** Brings the list of all lessons into sight, open. */
+function showLessons() {
+  byId('lessons-part').open = true;
+  byId('lessons-part').scrollIntoView({ block: 'nearest' });
+  (byId('lessons').querySelectorAll('button')[1] ?? byId('lessons').querySelector('button')).focus({ preventScroll: true });
+}
+
 /** The buttons by which lessons begin: the first one stands above, and all of them in their list. */
 function drawLessons() {
   const lessons = lessonsHere(), [{ name, title }] = lessons, others = lessons.length - 1;
   byId('first-lesson').dataset.lesson = name;
   byId('first-lesson').textContent = title;
-  byId('more-lessons').textContent = others === 0 ? '' : `A few minutes. ${others} more ${others === 1 ? 'stands' : 'stand'} at “Lessons”.`;
+  byId('more-lessons').hidden = others === 0;
+  putText(byId('more-lessons'), `${others} more ${others === 1 ? 'lesson' : 'lessons'}`);
   byId('lessons').replaceChildren(...lessons.map(each => html('li', {}, html('button', { type: 'button', 'data-lesson': each.name, class: 'quiet' }, each.title))));
 }
 
@@ -208,3 +258,6 @@ document.addEventListener('click', ({ target }) => {
 byId('lesson-next').addEventListener('click', goOn);
 byId('lesson-back').addEventListener('click', () => enterStep(lesson.at - 1));
 byId('lesson-leave').addEventListener('click', leaveLesson);
+byId('lesson-again').addEventListener('click', () => beginLesson(leftLesson.name, leftLesson.at));
+byId('more-lessons').addEventListener('click', showLessons);
+byId('to-first-test').addEventListener('click', toFirstTest);

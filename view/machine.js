@@ -73,17 +73,22 @@ function cacheRows(sets, changes, awaited, supply) {
 }
 
 /** Which of a core's two buttons are known to stall, by the core alone; a bus that is held may make others stall. */
-function knownStalls(program, { place, buffer }, depth) {
-  const next = program[place] ?? '', waits = buffer.length > 0 && (/^MFENCE/i.test(next) || isLocked(next));
-  const isFull = depth > 0 && buffer.length === depth && /^MOV\s+\[/i.test(next);
-  return { step: next === '' || waits || isFull, drain: buffer.length === 0 };
+function knownStalls(program, core, depth) {
+  return { step: program[core.place] === undefined || waitsFor(program, core, depth) !== '', drain: core.buffer.length === 0 };
+}
+
+/** Why the next instruction would have to wait for the store buffer; empty where it wouldn't. */
+function waitsFor(program, { place, buffer }, depth) {
+  const next = program[place] ?? '';
+  if (buffer.length > 0 && (/^MFENCE/i.test(next) || isLocked(next))) return 'buffer not empty';
+  return depth > 0 && buffer.length === depth && /^MOV\s+\[/i.test(next) ? 'buffer full' : '';
 }
 
 /** What a core's two buttons would do. */
 function buttonTexts(program, { place, buffer }, bus, core) {
   const goesOn = choice => (bus?.choice === choice ? ' (holds the bus)' : '');
   return {
-    step: (program[place] ?? 'at its end') + goesOn(`${core}s`),
+    step: (program[place] ?? 'finished') + goesOn(`${core}s`),
     drain: (buffer[0] ?? 'empty') + goesOn(`${core}d`),
   };
 }
@@ -151,6 +156,7 @@ class CorePanel {
   showButtons(core, bus, hasEnded) {
     const texts = buttonTexts(this.program, core, bus, this.core), stalls = knownStalls(this.program, core, this.depth);
     this.hasOffered = false;
+    this.step.dataset.waits = hasEnded ? '' : waitsFor(this.program, core, this.depth);
     for (const way of ['step', 'drain']) {
       putText(this[way].lastChild, texts[way]);
       setAll(this[way], { 'aria-label': `P${this.core}: ${way} ${texts[way]}` });
@@ -187,11 +193,11 @@ class CorePanel {
 
 // The bus and memory.
 
-function busItems(kind, bus, step, supply) {
+function busItems(bus, step, supply) {
   const held = bus && `P${bus.core} holds the bus for ${bus.line}` + (bus.state?.length > 1 ? `, and waits for it (${bus.state})` : '');
-  const idle = kind === 'split' ? 'free' : 'free: each access has it for its own step';
   const passed = [step?.transaction, step?.flush && `flush ${step.flush}`, step?.write_back && `write-back ${step.write_back}`].filter(Boolean);
-  return [html('span', sourced({ class: held ? 'holder' : '' }, supply), held ?? idle), ...passed.map(text => withMeaning({ class: 'word changed' }, text.split(' ')[0], text))];
+  const holder = html('span', sourced({ class: held ? 'holder' : '' }, supply), held ?? 'free');
+  return [holder, ...passed.map(text => withMeaning({ class: 'word changed' }, text.split(' ')[0], text))];
 }
 
 /** Each location's word in memory, and beside it the newest word where a cache has another. Without caches memory has the newest. */
@@ -250,7 +256,7 @@ class MachinePanel {
       isLast: last !== undefined && coreOfChoice(last.choice) === core,
     }));
     if (!isPlain) putText(this.tally, tallyText(history.steps, count));
-    this.bus.show(history.options.bus, now.bus, last && { transaction: last.transaction, flush: last.flush, write_back: last.write_back }, suppliedBy('bus'));
+    this.bus.show(now.bus, last && { transaction: last.transaction, flush: last.flush, write_back: last.write_back }, suppliedBy('bus'));
     const wordsOf = ({ memory, seen }) => ({ memory: isPlain ? seen : memory, seen });
     this.memory.show(wordsOf(now), wordsOf(before), suppliedBy('memory'));
     putText(this.said, count > history.steps.length ? 'Its test had ended before this choice, which is left over.' : last ? stepSentences(last, before, history.programs, isPlain).join(' ') : '');

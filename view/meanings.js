@@ -14,8 +14,11 @@ const MEANINGS = {
   Under: 'TSO alone: such an end needs store buffers. Sequential consistency has none like it.',
   Condition: 'Whether the proposition of the test’s condition is true of this end.',
   seed: 'A number from which choices are drawn at random. The same seed draws the same choices.',
+  exercise: 'One file of the whole page, with this test and its settings: no choices, no list, so that nothing is solved.',
+  lecture: 'Large type, and only what is taught. A clicker’s keys, PageDown and PageUp, step lessons, runs, reasons, and a list of tests.',
   beside: 'Another machine that makes the same choices, so that one sees what differs.',
-  depth: 'How many stores wait at most in a core’s store buffer. With 0 there is none: that is sequential consistency.',
+  depth: 'How many stores wait at most in a core’s store buffer. With 0 there is none: that is sequential consistency. ' +
+    'Each other number is within TSO; what TSO allows in all is at Find all outcomes.',
   protocol: 'The rules by which caches keep their copies in step: MSI, MESI, MOESI or MOSI, after the states that a line has.',
   bus: 'Atomic: each access has the bus for its own step. Split: a core asks first, and completes the access in a later step.',
   sets: 'Into so many sets the lines of a cache are divided.',
@@ -60,11 +63,22 @@ function withMeaning(attributes, name, shown, tag = 'span') {
   return html(tag, meaning === undefined ? attributes : { ...attributes, tabindex: 0, role: 'note', 'data-means': name, 'aria-label': `${shown}. ${meaning}` }, shown);
 }
 
-/** Shows what the word under the pointer or the focus means, directly below it. A page that scrolls under a pointer which rests hides nothing
- * that the focus shows. */
+/** Where the pointer was last. A browser also tells that it came to something when the page changed below it and it itself rested. */
+const pointerWas = { x: -1, y: -1 };
+
+/** Whether an event is one of a pointer that rests. */
+function isAtRest({ type, screenX: x, screenY: y }) {
+  if (!type.startsWith('pointer')) return false;
+  const rests = pointerWas.x === x && pointerWas.y === y;
+  Object.assign(pointerWas, { x, y });
+  return rests;
+}
+
+/** Shows what the word under the pointer or the focus means, directly below it. What changes under a pointer which rests shows nothing, and
+ * hides nothing that the focus shows. */
 function showMeaning(event) {
   const word = event.target.closest?.('[data-means]'), box = byId('meaning');
-  if (!word && box.dataset.by !== event.type) return;
+  if (isAtRest(event) || (!word && box.dataset.by !== event.type)) return;
   box.hidden = !word;
   box.dataset.by = event.type;
   if (!word) return;
@@ -76,4 +90,5 @@ function showMeaning(event) {
 
 for (const kind of ['pointerover', 'focusin']) document.addEventListener(kind, showMeaning);
 document.addEventListener('focusout', () => { byId('meaning').hidden = true; });
-document.addEventListener('keydown', event => { if (event.key === 'Escape') byId('meaning').hidden = true; });
+for (const kind of ['keydown', 'click']) document.addEventListener(kind, () => { byId('meaning').hidden = true; });
+document.addEventListener('pointermove', ({ screenX: x, screenY: y }) => Object.assign(pointerWas, { x, y }), { passive: true });

@@ -11,7 +11,8 @@ function readOutcomes(text) {
 /** The sentence on top: in plain words how many states are as the condition says, and after it the words of the field. `test` is the text of
  * the test, whose condition has the words. */
 function observationSentence({ states, observation, verdict, depth }, test) {
-  const where = depth === 32 ? `under TSO${lesson.told === null ? ' (store buffers of depth 32)' : ''}` : depth === 0 ? 'under sequential consistency' : `with store buffers of depth ${depth}`;
+  const full = lesson.told === null ? ' (buffers of 32 stores, so never full)' : '';
+  const where = depth === 32 ? `under TSO${full}` : depth === 0 ? 'under sequential consistency' : `with store buffers of depth ${depth}`;
   if (observation === null) return `${states.length === 1 ? 'One final state' : `${states.length} final states`} ${where}. The test has no condition.`;
   const { word, true: yes, false: no } = observation;
   return `${countSentence(states.length, yes, where, test)} Observation: ${word} (true in ${yes} of the states, false in ${no}).${verdictWords(verdict)}`;
@@ -32,9 +33,10 @@ function readMet(text) {
   return { states: met, verdict, unfinished };
 }
 
-function metSentence({ states, verdict, unfinished }) {
+function metSentence({ states, verdict, unfinished }, isStopped) {
   const many = states.length === 1 ? 'One of the final states was' : `${states.length} of the final states were`;
-  return `The search kept ${unfinished.states.toLocaleString('en')} states, its limit, and didn't end. ${many} met before that; there may be others.${verdictWords(verdict)}`;
+  const kept = `${unfinished.states.toLocaleString('en')} states`, limit = `The search kept ${kept}, its limit, and didn't end. ${many} met before that`;
+  return `${isStopped ? `The search was stopped. ${many} met among its first ${kept}` : limit}; there may be others.${verdictWords(verdict)}`;
 }
 
 const valuesText = values => Object.entries(values).map(([name, word]) => `${name}=${word}`).join(' ');
@@ -73,10 +75,23 @@ function truthsOf({ states, observation, depth }, test) {
 function outcomesTable(outcomes, sequential, truths) {
   const { states } = outcomes, names = Object.keys(states[0].values), isNew = sequential && newStates(outcomes, sequential);
   const titles = [...names, ...(sequential ? ['Under'] : []), ...(truths ? ['Condition'] : []), 'Choices that lead there', ''];
-  return tableOf('Final states', titles, states.map(({ values, choices }, at) => html('tr', truths?.[at] ? { class: 'met' } : {},
+  const sheet = tableOf('Final states', titles, states.map(({ values, choices }, at) => html('tr', truths?.[at] ? { class: 'met' } : {},
     ...names.map(name => html('td', { class: 'number' }, String(values[name]))),
     ...(sequential ? [html('td', { class: 'unbroken' }, isNew[at] ? html('strong', {}, 'TSO alone') : 'TSO and SC')] : []),
     ...(truths ? [html('td', {}, truths[at] ? '✓ true' : 'false')] : []),
     html('td', { class: 'wraps way' }, choices === '' ? '(none)' : choices),
     html('td', {}, html('button', { type: 'button', 'data-choices': choices, 'data-depth': outcomes.depth, 'aria-label': `Run to ${valuesText(values)}` }, 'Run them')))));
+  if (outcomes.unfinished === undefined) sheet.querySelector('table').append(...neverRow(names, titles.length, truths));
+  return sheet;
+}
+
+/** The row of what the condition asks for, where none of all states is so and the condition names each column: struck through, below the
+ * table. Of a search that didn't end it can't be told. */
+function neverRow(names, columns, truths) {
+  const { proposition } = readTest(inputOf('outcomes')), wanted = truths?.every(truth => !truth) && proposition !== null ? wantedWords(proposition) : null;
+  const words = new Map(wanted?.map(({ core, register, location, word }) => [location ?? `${core}:${register}`, word]));
+  if (wanted === null || !names.every(name => words.has(name)) || words.size !== names.length) return [];
+  const cells = names.map(name => html('td', { class: 'number' }, html('s', {}, String(words.get(name)))));
+  const never = html('td', { colspan: columns - names.length, class: 'prose' }, html('strong', {}, 'never'), ', in no run');
+  return [html('tfoot', {}, html('tr', { class: 'never' }, ...cells, never))];
 }

@@ -173,7 +173,8 @@ async function start() {
     return;
   }
   beginTeaching(told);
-  if (isOfTest) showAddress();
+  if (taught.list.length > 0 && location.hash === '') openLecture(); // that was saved
+  else if (isOfTest) showAddress();
   const isOpen = drive.isOn || shown.run || bench.task !== null || bench.answer !== null;
   if (!isOpen && byId('line').value === '') beginAtFirst();
   takeUndoing(keptState);

@@ -3,7 +3,7 @@
 // The picture. All measures are pixels.
 
 const GUTTER = 34, HEAD = 34, ROW = 50, BOX = 38, FRAME = 5, MARGIN = 30, INSET = 6;
-const LANE = { least: 150, most: 300, large: 220, box: 200 };
+const LANE = { most: 300, large: 220, box: 200, least: 66 }; // the last two are of a box in it
 const TRACK = { most: 11, room: 44 };
 const PAPER = { whole: 24, piece: 8 }; // rows: of a picture that goes on one page, of a piece of a longer one
 const LEAST_FONT = 9;
@@ -12,10 +12,10 @@ const GLYPH = 0.61; // the width of a letter of the fixed fonts, for a size of 1
 /** Where everything stands in a picture of at most this width, or as narrow as a lane may be. */
 function layoutOf({ cores, tracks, order }, width) {
   const pitch = Math.min(TRACK.most, TRACK.room / Math.max(1, tracks));
-  const lane = Math.min(LANE.most, Math.max(LANE.least, Math.floor((width - GUTTER - 2) / cores)));
+  const inner = INSET + tracks * pitch + 10;
+  const lane = Math.min(LANE.most, Math.max(inner + LANE.least + MARGIN, Math.floor((width - GUTTER - 2) / cores)));
   const left = core => GUTTER + core * lane;
   const top = moment => HEAD + moment * ROW;
-  const inner = INSET + tracks * pitch + 10;
   const box = Math.min(LANE.box, lane - inner - MARGIN), large = lane >= LANE.large;
   return {
     tracks, pitch, lane, left, top, label: large ? 17 : 13, note: large ? 12 : 10,

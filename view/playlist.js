@@ -2,14 +2,26 @@
 
 // A list of tests for a lecture: each as its address tells it, with a way to the next and to the one before. It is saved with the page.
 
-/** The number of the test of the list that was opened last; -1 before one is. */
-const playlist = { at: -1 };
+/** The number of the test of the list that was opened or added last, -1 before one is; of which address the note beside the buttons is,
+ * null where there is none; whether the bar names that test, since what is shown is of it; and whether one came to it from the next one. */
+const playlist = { at: -1, said: null, isEntry: false, isFromBehind: false };
 
+const MOST_NAME = 80; // characters of an entry's name
 const MOST_LISTED = 400000; // characters of a list that the browser keeps
+
+/** What an entry is, beside its test's name: what is asked, or how many choices are known, and how many machines stand abreast. */
+function entryKind() {
+  const command = currentCommand(), known = drive.words.length;
+  if (command !== 'run') return command;
+  const run = known === 0 ? 'no choices yet' : `run, ${known} ${known === 1 ? 'choice' : 'choices'}`;
+  return drive.beside === null ? run : `${run}, ${drive.beside === ABREAST ? 'four protocols' : 'two machines'}`;
+}
+
+const entryNow = () => ({ name: `${testName()}: ${entryKind()}`, address: currentAddress() });
 
 /** Adds what is shown to the list, if it isn't there, and says beside the button which it is. */
 function addToList() {
-  const one = { name: testName(), address: currentAddress() }, at = taught.list.findIndex(({ address }) => address === one.address), isThere = at >= 0;
+  const one = entryNow(), at = taught.list.findIndex(({ address }) => address === one.address), isThere = at >= 0;
   if (!isThere && taught.list.length >= MOST_TAUGHT.tests) return sayListed(`The list has ${MOST_TAUGHT.tests} tests, and takes no more.`);
   if (!isThere) taught.list = [...taught.list, one];
   playlist.at = isThere ? at : taught.list.length - 1;
@@ -17,7 +29,38 @@ function addToList() {
   sayListed(`${isThere ? 'It is there already, as' : 'Added as'} ${playlist.at + 1} of ${taught.list.length}.`);
 }
 
-const sayListed = sentence => document.querySelectorAll('.listed').forEach(place => putText(place, sentence));
+/** Puts what is shown in the place of the entry that was opened or added last. */
+function updateListed() {
+  taught.list = taught.list.with(playlist.at, entryNow());
+  drawList();
+  sayListed(`It is ${playlist.at + 1} of ${taught.list.length} now.`);
+}
+
+/** Says something beside the buttons of the list, of what is shown now, with a way to the list. */
+function sayListed(sentence) {
+  playlist.said = sentence === '' ? null : currentAddress();
+  const toList = () => html('button', { type: 'button', class: 'quiet', 'data-to-list': '' }, 'See the list ↑');
+  for (const place of document.querySelectorAll('.listed')) place.replaceChildren(...(sentence === '' ? [] : [sentence, ' ', toList()]));
+}
+
+/** Whether what is shown is of the test and the command of the entry that was opened or added last. */
+function isOfEntry() {
+  const entry = taught.list[playlist.at];
+  if (entry === undefined) return false;
+  const told = new URLSearchParams(entry.address);
+  return told.get('test') === byId('test').value && commandOf(told.get('command')) === currentCommand();
+}
+
+/** Keeps what is said of the list with what is shown: notes of something else go, and an entry that was changed can be put anew. */
+function followShown() {
+  const address = currentAddress(), isEntry = isOfEntry();
+  if (playlist.said !== null && playlist.said !== address) sayListed('');
+  for (const button of document.querySelectorAll('[data-update-list]')) {
+    button.hidden = !isEntry || taught.list[playlist.at].address === address;
+    putText(button, `Update ${playlist.at + 1} of ${taught.list.length}`);
+  }
+  if (playlist.isEntry !== isEntry) drawBar(isEntry);
+}
 
 /** The list, for what the browser keeps with the address: so it is there again after a reload. */
 const listToKeep = () => (JSON.stringify(taught.list).length <= MOST_LISTED ? taught.list : []);
@@ -46,31 +89,78 @@ function raiseInList(at) {
   drawList();
 }
 
-/** Opens a test of the list. */
-function openListed(at) {
+/** Opens a test of the list: a run before its first choice, so that one goes through it, or at its end (`isAtEnd`) for who goes back. */
+function openListed(at, isAtEnd = false) {
   if (at < 0 || at >= taught.list.length) return;
-  playlist.at = at;
+  Object.assign(playlist, { at, isFromBehind: isAtEnd });
   endLesson();
   openTest(taught.list[at].address);
+  if (drive.isOn) goTo(isAtEnd ? drive.words.length : 0);
   drawList();
+}
+
+/** Of a cycle to which one came from the next test: shows its last arrow. */
+function showFromBehind() {
+  if (playlist.isFromBehind && isOfEntry()) sheet.cycle?.move('all');
+  playlist.isFromBehind = false;
+}
+
+const listButton = (attributes, text, isOff = false) => html('button', { type: 'button', ...attributes, ...(isOff ? { disabled: '' } : {}) }, text);
+
+/** The bar over the machine: which entry is shown, if one is, and the ways to the one before and the next. */
+function drawBar(isEntry) {
+  const { list } = taught, { at } = playlist;
+  const all = `${list.length} ${list.length === 1 ? 'test' : 'tests'}`;
+  const where = at < 0 ? all : isEntry ? `${at + 1} of ${list.length}: ${list[at].name}` : `Not in the list of ${all}`;
+  playlist.isEntry = isEntry;
+  byId('list-bar').replaceChildren(listButton({ 'data-listed': at - 1 }, '◀ Previous test', at <= 0), html('span', {}, where),
+    listButton({ 'data-listed': at + 1 }, at + 1 < list.length ? `Next test: ${list[at + 1].name} ▶` : 'Next test ▶', at >= list.length - 1));
 }
 
 function drawList() {
   keepList();
   sayListed('');
-  const { list } = taught, { at } = playlist, button = (attributes, text, isOff = false) => html('button', { type: 'button', ...attributes, ...(isOff ? { disabled: '' } : {}) }, text);
+  const { list } = taught;
   byId('list-bar').hidden = byId('list-part').hidden = list.length === 0;
-  byId('list-bar').replaceChildren(button({ 'data-listed': at - 1 }, '◀ Previous test', at <= 0), html('span', {}, at < 0 ? `${list.length} tests` : `${at + 1} of ${list.length}: ${list[at].name}`),
-    button({ 'data-listed': at + 1 }, at + 1 < list.length ? `Next test: ${list[at + 1].name} ▶` : 'Next test ▶', at >= list.length - 1));
-  byId('list').replaceChildren(...list.map(({ name }, each) => html('li', {}, button({ 'data-listed': each, class: 'quiet' }, name),
-    ' ', button({ 'data-raised': each, class: 'quiet', 'aria-label': `Move ${name} up` }, 'up', each === 0),
-    ' ', button({ 'data-unlisted': each, class: 'quiet', 'aria-label': `Take ${name} off the list` }, 'take off'))));
+  drawBar(isOfEntry());
+  byId('list').replaceChildren(...list.map(({ name }, each) => html('li', {}, listButton({ 'data-listed': each, class: 'quiet' }, name),
+    ' ', listButton({ 'data-raised': each, class: 'quiet', 'aria-label': `Move ${name} up` }, 'up', each === 0),
+    ' ', listButton({ 'data-renamed': each, class: 'quiet', 'aria-label': `Rename ${name}` }, 'rename'),
+    ' ', listButton({ 'data-unlisted': each, class: 'quiet', 'aria-label': `Take ${name} off the list` }, 'take off'))));
+  followShown();
+}
+
+/** Puts a field in the place of an entry's name, in which one writes another. */
+function renameListed(at) {
+  const item = byId('list').children[at], named = { 'aria-label': 'Name in the list', 'data-name-of': at };
+  const field = html('input', { type: 'text', inputmode: 'text', maxlength: MOST_NAME, ...named });
+  field.value = taught.list[at].name;
+  item.firstElementChild.replaceWith(field);
+  field.select();
+  field.addEventListener('change', () => {
+    const name = field.value.trim();
+    if (name !== '') taught.list = taught.list.with(at, { ...taught.list[at], name });
+    drawList();
+    byId('list').children[at].firstElementChild.focus();
+  });
+}
+
+/** Brings the list into sight, open. */
+function showList() {
+  byId('list-part').open = true;
+  byId('list-part').scrollIntoView({ block: 'center' });
+  byId('list').querySelector('button').focus({ preventScroll: true });
 }
 
 document.addEventListener('click', ({ target }) => {
-  const { listed, unlisted, raised } = target.dataset ?? {};
+  const { listed, unlisted, raised, renamed } = target.dataset ?? {};
   if (listed !== undefined) openListed(Number(listed));
   else if (raised !== undefined) raiseInList(Number(raised));
+  else if (renamed !== undefined) renameListed(Number(renamed));
   else if (unlisted !== undefined) dropFromList(Number(unlisted));
 });
-document.addEventListener('click', ({ target }) => target.matches('[data-add-to-list]') && addToList());
+document.addEventListener('click', ({ target }) => {
+  if (target.matches('[data-add-to-list]')) addToList();
+  else if (target.matches('[data-update-list]')) updateListed();
+  else if (target.matches('[data-to-list]')) showList();
+});

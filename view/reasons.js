@@ -150,6 +150,6 @@ function executionTables({ sources, coherence, values }) {
   return [
     tableOf('What each read returns', ['Read', 'Of'], sources.map(({ read, write }) => row(read, write === 'initial' ? 'the initial value' : write))),
     tableOf('In which order writes reach memory', ['Location', 'Writes'], Object.entries(coherence).map(([location, writes]) => row(location, writes.join(', ')))),
-    tableOf('What is left', ['Place', 'Word'], Object.entries(values).map(([place, word]) => row(placeName(place), String(word)))),
+    tableOf('Final values', ['Place', 'Value'], Object.entries(values).map(([place, word]) => row(placeName(place), String(word)))),
   ];
 }

@@ -47,5 +47,11 @@ function usedRelations(edges) {
   return [...known.filter(name => names.includes(name)), ...names.filter(name => !known.includes(name))];
 }
 
+/** What the letters of a relation mean among some edges: at one location program order always holds. */
+function meaningOf(name, edges) {
+  const locations = new Set(edges.flatMap(({ from, to }) => [from, to]).map(text => eventOf(text).location));
+  return name === 'po' && locations.size === 1 ? 'Program order: accesses of one core to one location always keep it.' : relationNamed(name).means;
+}
+
 const relationNamed = name => (Object.hasOwn(RELATIONS, name) ? RELATIONS[name] : UNKNOWN_RELATION);
 const edgeSentence = ({ from, relation, to }) => relationNamed(relation).says(from, to);

@@ -15,7 +15,13 @@ function fileName(name, ending) {
   return (plain === '' ? 'test' : plain) + ending;
 }
 
-const saveText = (name, text, type = 'text/plain') => saveFile(name, new Blob([text], { type }));
+/** Saves a file, and says so. */
+function saveAndSay(name, blob) {
+  saveFile(name, blob);
+  sayDone('.page-saved, #report-copied', `Saved as ${name}, where your browser puts downloads.`);
+}
+
+const saveText = (name, text, type = 'text/plain') => saveAndSay(name, new Blob([text], { type }));
 
 /** What a drawing takes from the page's style, and has to bring with it. */
 const STYLED = ['fill', 'stroke', 'stroke-width', 'stroke-dasharray', 'paint-order', 'opacity', 'font-family', 'font-weight', 'font-size', 'text-anchor'];
@@ -114,7 +120,7 @@ function traceNow(json = false) {
 
 async function savePoints(name, picture) {
   try {
-    saveFile(fileName(name, '.png'), await pictureInPoints(picture));
+    saveAndSay(fileName(name, '.png'), await pictureInPoints(picture));
   } catch (fault) {
     byId('message').textContent = `The picture isn't saved: ${fault.message}.`;
   }

@@ -16,8 +16,9 @@ const SETTINGS = {
 const CHOSEN = ['protocol', 'bus', 'model'];
 /** What each command answers. */
 const ANSWERS_OF = {
-  run: 'What one run does: the one of the choices below.', outcomes: 'All final states, with choices that lead to each.', sweep: 'How often each final state comes, in the runs of many seeds.',
-  counts: 'What the caches did, in the runs of many seeds.', check: 'Whether an order is one of TSO.', witness: 'Choices that lead to an order.', tables: 'The table of a protocol.',
+  run: 'What one run does: the one of the choices below.', outcomes: 'All final states, with choices that lead to each.',
+  sweep: 'How often each final state comes, in the runs of many seeds.', counts: 'What the caches did, in the runs of many seeds.',
+  check: 'Whether an order is one of TSO.', witness: 'Choices that lead to an order.', tables: 'The table of a protocol.',
   why: 'Why the end that is asked for can’t be, or how it can.',
 };
 /** What the button says that begins a long command. */
@@ -100,7 +101,8 @@ function commandWords(command) {
     return name !== 'command' && value !== usual;
   });
   const instructions = bench.hasLargerSet && command !== 'tables' ? ['--instructions', 'all'] : [];
-  return ['./tso', command, ...instructions, ...changed.flatMap(([name, value]) => ['--' + name, String(value)])].join(' ');
+  const form = byId('as-json').checked && !byId('formats').hidden ? ['--json'] : [];
+  return ['./tso', command, ...form, ...instructions, ...changed.flatMap(([name, value]) => ['--' + name, String(value)])].join(' ');
 }
 
 /** The whole line for a shell, with the file that *Save the input* makes. */

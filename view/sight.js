@@ -7,9 +7,10 @@ const CLEAR = 8; // pixels beside the bar
 /** Keeps room beside the bar, at the edge of the window where it stands still, when the browser scrolls to something. */
 function keepClear() {
   const bar = byId('stepper'), isSticky = getComputedStyle(bar).position === 'sticky' && bar.offsetHeight > 0, room = isSticky ? `${bar.offsetHeight + CLEAR}px` : '0px';
-  const isBelow = isStepperBelow() && drive.isOn, { style } = document.documentElement;
-  style.scrollPaddingTop = isBelow ? '0px' : room;
+  const isBelow = isStepperBelow() && drive.isOn, { style } = document.documentElement, told = byId('lesson');
+  const above = getComputedStyle(told).position === 'sticky' ? `${told.offsetHeight + CLEAR}px` : '0px';
+  style.scrollPaddingTop = isBelow ? above : room;
   style.scrollPaddingBottom = isBelow ? room : '0px';
 }
 
-new ResizeObserver(keepClear).observe(byId('stepper'));
+for (const id of ['stepper', 'lesson']) new ResizeObserver(keepClear).observe(byId(id));

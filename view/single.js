@@ -30,15 +30,15 @@ function inOneFile(page, place, textOf, tag) {
 }
 
 /** The lessons and tests that were brought along, for the head of a page. */
-const taughtPart = () => (taughtNow() === '' ? '' : `<meta name="taught" content="${inAttribute(taughtNow())}">\n`);
+const taughtPart = text => (text === '' ? '' : `<meta name="taught" content="${inAttribute(text)}">\n`);
 
-/** The whole page as one text, which opens what this address tells. */
-async function wholePage(address) {
+/** The whole page as one text, which opens what this address tells, or the first test of the list, and brings along a text of lessons and tests. */
+async function wholePage(address, brought = taughtNow()) {
   const whole = await openedWhole(), scriptText = name => whole.scripts[name] ?? dataScript(DATA[name]());
   const scripts = [...whole.page.matchAll(/<script src="([a-z]+\.js)">/g)].map(([, name]) => scriptText(name)), styles = Object.values(whole.styles);
   const [ofScripts, ofStyles] = await Promise.all([scripts, styles].map(async texts => (await Promise.all(texts.map(digestOf))).join(' ')));
   const head = whole.page.replace('script-src \'self\'', () => `script-src ${ofScripts}`).replace('style-src \'self\'', () => `style-src ${ofStyles}`)
-    .replace('<title>', () => `<meta name="shown" content="${inAttribute(address)}">\n${taughtPart()}<title>`);
+    .replace('<title>', () => `<meta name="shown" content="${inAttribute(address)}">\n${taughtPart(brought)}<title>`);
   const styled = inOneFile(head, /<link rel="stylesheet" href="([a-z]+\.css)">/g, name => whole.styles[name], 'style');
   return inOneFile(styled, /<script src="([a-z]+\.js)"><\/script>/g, scriptText, 'script');
 }
@@ -52,15 +52,27 @@ function whyNotSaved() {
   return window.crypto?.subtle ? null : 'The browser makes digests only for pages from https or from files. So this page can\'t be saved from here.';
 }
 
-async function savePage() {
+/** Saves a page under a name, and says so. */
+async function saveWhole(name, makePage) {
   const why = whyNotSaved();
   if (why !== null) {
     byId('message').textContent = why;
     return;
   }
-  const name = fileName(pictureName(), '.html');
-  saveText(name, await wholePage(addressNow()), 'text/html');
-  for (const said of document.querySelectorAll('.page-saved')) putText(said, `Saved as ${name}, where your browser puts downloads.`);
+  saveText(name, await makePage(), 'text/html');
 }
 
-SAVES.page = savePage;
+/** The page with what is shown; with a list of tests it is named by these. */
+function savePage() {
+  const tests = taught.list.length;
+  return saveWhole(tests > 1 ? `lecture-of-${tests}-tests.html` : fileName(pictureName(), '.html'), () => wholePage(addressNow()));
+}
+
+/** The page with this test, its settings and what stands beside alone: no choices, no list, and nothing asked. */
+function saveExercise() {
+  const isKept = ([name]) => name === 'beside' || name === 'caches', { lessons } = taught;
+  const address = new URLSearchParams([['test', byId('test').value], ...changedSettings(), ...driven().filter(isKept)]).toString();
+  return saveWhole(fileName(`${testName()}-exercise`, '.html'), () => wholePage(address, lessons.length === 0 ? '' : JSON.stringify({ lessons })));
+}
+
+Object.assign(SAVES, { page: savePage, exercise: saveExercise });

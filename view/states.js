@@ -36,13 +36,19 @@ function sortBy(title) {
   body.append(...[...body.rows].sort((one, other) => way * compareCells(one.cells[head.cellIndex], other.cells[head.cellIndex])));
 }
 
-/** Says before it is pressed that a run of the table has other store buffers than one's own. */
-function depthNote(depth) {
+const MOST_TRIED = 24; // states whose choices are tried in one's own store buffers
+
+/** Says before it is pressed that a run of the table has other store buffers than one's own, where one has no room in these. */
+function depthNote({ states, depth }) {
   const { options } = readSettings('run');
   if (options === undefined || options.depth === depth) return [];
+  if (depth > 0 && states.length <= MOST_TRIED && states.every(({ choices }) => hasRoom(choices, options.depth))) return [];
   const keeps = depth > 0 ? 'where a run has no room in yours' : 'in place of yours';
   return [html('p', { class: 'small faint' }, `“Run them” takes store buffers of depth ${depth} ${keeps}, of depth ${options.depth}. You can go back to your own run.`)];
 }
+
+/** What the names of places and of choices mean, by one of each. */
+const KEY = '0:EAX is the register EAX of P0. In the choices 0s lets P0 take its next step, and 0d drains its oldest store.';
 
 /** The table of states with what sorts and filters it. */
 function statesSheet(outcomes, sequential, truths) {
@@ -53,7 +59,8 @@ function statesSheet(outcomes, sequential, truths) {
   const alone = sequential ? [html('label', {}, html('input', { class: 'alone', type: 'checkbox' }), ' TSO alone')] : [];
   const tools = html('div', { class: 'buttons small' }, html('label', {}, 'Filter ', filter), ...alone, html('span', { class: 'filtered', role: 'status' }));
   const words = sequential ? [html('p', { class: 'small faint' }, '“TSO alone”: it needs store buffers. SC is sequential consistency: no store buffers.')] : [];
-  const sheet = html('div', { class: 'states-sheet' }, ...words, ...(outcomes.states.length > 1 ? [tools] : []), ...depthNote(outcomes.depth), table);
+  const key = html('p', { class: 'small faint key' }, KEY);
+  const sheet = html('div', { class: 'states-sheet' }, ...words, ...(outcomes.states.length > 1 ? [tools] : []), ...depthNote(outcomes), table, key);
   if (outcomes.states.length > 1) filterStates(sheet);
   return [sheet];
 }

@@ -23,7 +23,7 @@ function climb(tso, rungs, input) {
   for (const [at, options] of rungs.slice(0, -1).entries()) {
     const answer = tso.answer(options, input);
     if (answer.status !== Tso.STATUS.unended) return answer;
-    postMessage({ progress: { command: options.command, count: limits[at], next: limits[at + 1], most: limits.at(-1) } });
+    postMessage({ progress: { command: options.command, count: limits[at], next: limits[at + 1], most: limits.at(-1), answer } });
   }
   return tso.answer(rungs.at(-1), input);
 }
@@ -46,7 +46,8 @@ const workerPolicy = window.trustedTypes?.createPolicy('worker', {
 });
 
 /** Begins to answer questions, each some options, on an input: `answers` is a promise, and `stop` ends the work, so that the
- * promise is never kept. `tell` is told how far the work came. */
+ * promise is never kept. `tell` is told how far the work came,
+ * with the answer of the limit that was met last. */
 function beginTask(bytes, questions, input, tell = () => {}) {
   const address = URL.createObjectURL(new Blob([WORK], { type: 'text/javascript' }));
   const worker = new Worker(workerPolicy?.createScriptURL(address) ?? address);

@@ -9,23 +9,28 @@ const LESSON_NAME = /^[a-z0-9-]{1,40}$/;
 const taught = { lessons: [], list: [] };
 
 const needTaught = (isSo, what) => need(isSo, `This isn't a file of lessons or of tests: ${what}.`);
+const isTestText = value => typeof value === 'string' && BEGINS_TEST.test(value) && whyTooLong(value) === null;
 const isText = value => typeof value === 'string' && value !== '' && value.length <= MOST_TAUGHT.text;
 
 /** A step of a lesson, as it was read; what it has beside the known members is left out. */
 function readLessonStep(step, where) {
-  const { say, ask, answers, right, because, do: word, then, show: shows } = readTaughtObject(step, where);
+  const { say, ask, answers, right, because, do: word, then, show: shows, look, test, title } = readTaughtObject(step, where);
   needTaught(isText(say) !== isText(ask), `${where} has to have either "say" or "ask", a text`);
+  needTaught(look === undefined || look === 'picture', `${where} can have the reader "look" at the picture`);
+  needTaught(test === undefined || isTestText(test), `${where} has a "test" that is none`);
+  needTaught(title === undefined || (test !== undefined && isText(title)), `${where} has a "title" that is no text, or no "test" for it`);
+  const also = { ...(look === undefined ? {} : { look }), ...(test === undefined ? {} : { test }), ...(title === undefined ? {} : { title }) };
   if (ask !== undefined) {
     needTaught(Array.isArray(answers) && answers.length >= 2 && answers.every(isText), `${where} has to have two "answers" or more`);
     needTaught((right === undefined || answers.includes(right)) && isText(because), `${where} has to say why ("because"), and "right" is one of the answers`);
-    return { ask, answers, because, ...(right === undefined ? {} : { right }) };
+    return { ask, answers, because, ...(right === undefined ? {} : { right }), ...also };
   }
   if (word !== undefined) {
     needTaught(/^[0-7][sd]$/.test(word) && isText(then), `${where} has to "do" one choice, as 0s, and tell what came of it ("then")`);
-    return { do: word, say, then };
+    return { do: word, say, then, ...also };
   }
   needTaught(shows === undefined || Object.hasOwn(LESSON_SHOWS, shows), `${where} can "show" outcomes, why or abreast`);
-  return shows === undefined ? { say } : { say, show: shows };
+  return { say, ...(shows === undefined ? {} : { show: shows }), ...also };
 }
 
 function readTaughtObject(value, where) {
@@ -37,7 +42,7 @@ function readLesson(value, at) {
   const where = `lesson ${at + 1}`, { name, title, text, test, settings = {}, caches = false, steps } = readTaughtObject(value, where);
   needTaught(typeof name === 'string' && LESSON_NAME.test(name), `${where} needs a "name" of small letters, digits and -`);
   needTaught(isText(title), `${where} needs a "title"`);
-  needTaught(textsHere().some(entry => entry.file === text) || (typeof test === 'string' && BEGINS_TEST.test(test) && whyTooLong(test) === null), `${where} needs a "test", or the name of one of the page's texts ("text")`);
+  needTaught(textsHere().some(entry => entry.file === text) || isTestText(test), `${where} needs a "test", or the name of one of the page's texts ("text")`);
   needTaught(Array.isArray(steps) && steps.length >= 1 && steps.length <= MOST_TAUGHT.steps, `${where} needs 1 to ${MOST_TAUGHT.steps} "steps"`);
   const known = Object.entries(readTaughtObject(settings, where)).filter(([key]) => SET_NAMES.includes(key)).map(([key, set]) => [key, String(set)]);
   return { name, title, ...(test === undefined ? { text } : { test }), settings: Object.fromEntries(known), caches: caches === true, steps: steps.map((step, of) => readLessonStep(step, `step ${of + 1} of ${where}`)) };

@@ -4,16 +4,20 @@
 
 const MORE = 10; // times the limit, by one press
 
-/** What one can do where a limit was too low: buttons and words. */
-function waysOn(command) {
+/** What one can do where a limit was too low, or where somebody stopped the work (`met` final states are known then): buttons and words. */
+function waysOn(command, { isStopped = false, met = 0 } = {}) {
   const name = LIMIT_OF[command], most = Number(settingOf(name).max), next = Math.min(most, MORE * valueOf(name));
   const button = (attributes, text) => html('button', { type: 'button', ...attributes }, text);
-  const more = next > valueOf(name) ? [html('li', {}, button({ 'data-more': `${name} ${next}` }, `Allow ${next.toLocaleString('en')} ${name}`), ' It takes longer, and more memory.')] : [];
+  const again = html('li', {}, button({ 'data-ask': command }, 'Begin again'), ' It starts from nothing, with the same limit.');
+  const allow = button({ 'data-more': `${name} ${next}` }, `Allow ${next.toLocaleString('en')} ${name}`);
+  const higher = next > valueOf(name) ? [html('li', {}, allow, ' It takes longer, and more memory.')] : [];
+  const many = met === 1 ? 'One final state' : `${met} final states`;
+  const shown = html('li', {}, button({ 'data-met': '' }, 'Show what was met'), ` ${many}; there may be others.`);
   const other = command === 'outcomes'
     ? [html('li', {}, button({ 'data-ask': 'why' }, 'Ask why'), ' It looks at the one end that the condition asks for, and needs no states.')]
     : [html('li', {}, button({ 'data-ask': 'outcomes' }, 'Find all outcomes'), ' It goes through the states of the machine, and tells no cases apart.')];
   const fewer = 'Name fewer registers and locations in the condition: ends are told apart by these alone. Or take fewer instructions or cores.';
-  return html('ul', { class: 'ways-on' }, ...other, ...more, html('li', {}, fewer));
+  return html('ul', { class: 'ways-on' }, ...other, ...(met > 0 ? [shown] : []), ...(isStopped ? [again] : higher), html('li', {}, fewer));
 }
 
 const UNFINISHED = {

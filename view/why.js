@@ -23,16 +23,21 @@ function hasLargerSet(tso) {
   }
 }
 
-/** The programs of an input's test, by its trace without choices, and its condition's text or null. */
+/** The programs of an input's test, by its trace without choices, its condition's text or null, and the machine at its start. */
 function readTest(input) {
-  const { text } = asked({ command: 'trace', json: true }, `${partsOf(input).test}${DIVIDING_LINE}\n`), { programs, proposition } = readTrace(text);
-  return { programs, proposition };
+  const { text } = asked({ command: 'trace', json: true }, `${partsOf(input).test}${DIVIDING_LINE}\n`), { programs, proposition, start } = readTrace(text);
+  return { programs, proposition, start };
 }
 
-/** How events are named: those kinds that an answer names. */
+const MOST_PASSES = 4; // that are told of an execution
+
+const ORDINALS = ['first', 'second', 'third', 'fourth', 'fifth', 'sixth', 'seventh', 'eighth'];
+
+/** How events are named, by one of an answer, and those kinds that it names. */
 function eventsSaid(text) {
+  const [name, core, place] = /P(\d):([1-7])(?= [RWLF])/.exec(text) ?? ['P0:1', '0', '1'];
   const locked = / L[RW] /.test(text) ? ', LR and LW are the two parts of a locked instruction' : '', fence = /:\d+ F\b/.test(text) ? ', F is a fence' : '';
-  return `P0:1 is the second instruction of P0. R is a load, W a store${locked}${fence}.`;
+  return `${name} is the ${ORDINALS[place]} instruction of P${core}: programs count from 0. R is a load, W a store${locked}${fence}.`;
 }
 
 /** Shows what `why --json` told of a test. */
@@ -41,12 +46,14 @@ function showReason(answer, test) {
   showAnswer(answer);
   foldReport(answer);
   Object.assign(sheet, { told, programs, cycle: null });
-  const parts = told.answer === 'never' ? refutedParts(told) : allowedParts(told, programs);
+  const parts = told.answer === 'never' ? refutedParts(told) : allowedParts(told, programs, proposition);
   const section = html('section', { class: 'reason', 'aria-label': 'Why' }, answerTitle(told.answer === 'never' ? 'Why it can\'t be' : 'How it can be'),
-    html('p', { role: 'status' }, html('strong', {}, plainAnswer(told, proposition)), html('span', { class: 'fine' }, ` ${reasonSentence(told, proposition)}`)), html('p', { class: 'small faint' }, eventsSaid(answer.text)), ...parts);
+    html('p', { role: 'status' }, html('strong', {}, plainAnswer(told, proposition)), html('span', { class: 'fine' }, ` ${reasonSentence(told, proposition)}`)),
+    html('p', { class: 'small faint' }, eventsSaid(answer.text)), ...parts);
   byId('states').replaceChildren(section);
   const [first] = told.answer === 'never' ? cyclesOf(told.steps) : [];
   if (first) drawCycle(first.at);
+  showFromBehind();
   section.append(...countsOffer(), sheetTools(section.querySelector('figure') !== null));
 }
 
@@ -72,19 +79,41 @@ function sheetTools(isDrawn) {
   choice.value = byId('saved-colours').value;
   choice.addEventListener('change', () => { byId('saved-colours').value = choice.value; });
   const save = (kind, name) => html('button', { type: 'button', 'data-save': `reason-${kind}` }, name);
-  return html('p', { class: 'buttons tools' }, ...(isDrawn ? [save('svg', 'Save the picture as SVG'), save('png', 'as PNG'), colours] : []), lectureButton());
+  const saves = isDrawn ? [save('svg', 'Save the picture as SVG'), save('png', 'as PNG'), colours] : [];
+  return html('p', { class: 'buttons tools' }, ...saves, lectureButton(), html('span', { class: 'page-saved', role: 'status' }));
 }
 
 function refutedParts({ steps, leaves }) {
   return [html('div', { class: 'refuted' }, html('div', { class: 'tree' }, treeList(treeOf(steps), steps, leaves <= FEW_LEAVES)), html('div', { class: 'drawn' }))];
 }
 
-function allowedParts(told, programs) {
-  const { choices, model } = told, edges = edgesOf(told);
+function allowedParts(told, programs, proposition) {
+  const { choices, model, coherence } = told, edges = edgesOf(told), places = proposition === null ? null : wantedWords(proposition);
+  const few = edges.length > MANY_EDGES && places !== null ? askedEdges(programs, edges, places, coherence) : edges;
   const run = html('button', { type: 'button', 'data-choices': choices, 'data-depth': DEPTH_OF[model] }, 'Run it');
-  const figure = edges.length === 0 ? [] : [drawEdges(programs, edges, 'The execution')];
-  return [html('p', { class: 'buttons' }, run, html('span', {}, 'by the choices ', html('code', {}, choices === '' ? '(none)' : choices))),
-    html('div', { class: 'beside' }, ...figure, html('div', { class: 'told-edges' }, ...executionTables(told), relationList(edges)))];
+  const relations = html('div', {}, relationList(few));
+  const figure = edges.length === 0 ? [] : [drawExecution(programs, edges, few, 'The execution', shown => relations.replaceChildren(relationList(shown)))];
+  return [...passesPart(choices, model), html('p', { class: 'buttons' }, run, ...choicesPart(choices)),
+    html('div', { class: 'beside' }, ...figure, html('div', { class: 'told-edges' }, ...executionTables(told), relations))];
+}
+
+const LONG_CHOICES = 80; // letters, from which on choices are folded
+
+/** The choices of a run that was found, folded where they are many. */
+function choicesPart(choices) {
+  const code = html('code', {}, choices === '' ? '(none)' : choices);
+  if (choices.length < LONG_CHOICES) return [html('span', {}, 'by the choices ', code)];
+  return [html('details', { class: 'small' }, html('summary', {}, `by ${countChoices(choices)} choices`), code)];
+}
+
+/** The loads that passed earlier stores in the run of these choices. */
+function passesPart(choices, model) {
+  const { status, text } = asked({ command: 'run', json: true, depth: DEPTH_OF[model] }, `${inputOf('sweep')}${DIVIDING_LINE}\n${choices}\n`);
+  const order = status === Tso.STATUS.good ? tellEntries(readLine(text.trim())).order : [];
+  const passes = order.filter(entry => entry.passed.length > 0).flatMap(passSentences);
+  if (passes.length === 0 || passes.length > MOST_PASSES) return [];
+  const title = passes.length === 1 ? 'A load passes a store: ' : 'Loads pass stores: ';
+  return [html('p', {}, html('strong', {}, title), passes.join(' '), ' This is the one order of a program that TSO doesn’t keep.')];
 }
 
 /** Draws the cycle of a step of the tree. */

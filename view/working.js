@@ -11,15 +11,13 @@ const grouped = count => count.toLocaleString('en');
 /** How far a search comes by now, if it goes on as fast as up to what it told last: it begins anew with each higher limit. */
 function estimated({ count, next, at, took }) {
   const reached = Math.min(next, count * (Date.now() - at) / Math.max(1, took)), step = 10 ** Math.max(0, Math.floor(Math.log10(Math.max(1, reached))) - 1);
-  return Math.floor(reached / step) * step;
+  return Math.max(count, Math.floor(reached / step) * step);
 }
 
-/** How far the work came: so many states or cases weren't enough, so many may be kept, and about where it is. */
+/** How far the work came, about, and how far it may come. */
 function progressText() {
   const { progress } = working;
-  if (progress === null) return '';
-  const { command, count, next, most } = progress;
-  return `More than ${grouped(count)} ${LIMIT_OF[command]} so far; its limit is ${grouped(most)}. Now from the start with room for ${grouped(next)}: by its speed it is at about ${grouped(estimated(progress))}.`;
+  return progress === null ? '' : `About ${grouped(estimated(progress))} of at most ${grouped(progress.most)} ${LIMIT_OF[progress.command]}.`;
 }
 
 function showWorking() {
@@ -38,7 +36,7 @@ function beginWorking() {
 
 function endWorking() {
   clearInterval(working.clock);
-  byId('working').hidden = byId('stop').hidden = byId('busy').hidden = true;
+  byId('working').hidden = byId('stop').hidden = byId('busy').hidden = byId('stopped').hidden = true;
 }
 
 /** Notes how far the work came. */
@@ -48,21 +46,42 @@ function tellProgress(progress) {
   showWorking();
 }
 
-/** Says where the work was shown, thus in sight, that it was stopped, how far it had come, and what one can do. */
-function sayStopped(command) {
-  const { progress } = working, far = progress === null ? '' : ` More than ${grouped(progress.count)} ${LIMIT_OF[progress.command]} were kept by then.`;
-  byId('stopped-said').textContent = `Stopped after ${secondsWorked()} s: there is no answer.${far}`;
-  byId('stopped-ways').replaceChildren(...(Object.hasOwn(LIMIT_OF, command) ? [waysOn(command)] : []));
-  byId('stopped').hidden = false;
+/** Puts what is said of stopped work under the button that began it, where that stands beside the test; else where the work was shown. */
+function placeStopped() {
+  const box = byId('stopped'), isBeside = isAskedBeside();
+  if (isBeside) byId('brief').after(box);
+  else byId('working').after(box);
+  box.classList.toggle('placed', isBeside);
+  box.hidden = false;
 }
 
-/** Ends the work before it has an answer, with the focus where it was. Where the machine is still in sight, it is driven on. */
+/** Says in sight that the work was stopped, how far it had come, and what one can do: the final states that were met by then can be shown. */
+function sayStopped(command) {
+  const { progress } = working, met = command === 'outcomes' && progress !== null ? readMet(progress.answer.text).states.length : 0;
+  const far = progress === null ? '' : `, at about ${grouped(estimated(progress))} of at most ${grouped(progress.most)} ${LIMIT_OF[progress.command]}`;
+  byId('stopped-said').textContent = `Stopped after ${secondsWorked()} s${far}: there is no whole answer.`;
+  byId('stopped-ways').replaceChildren(...(Object.hasOwn(LIMIT_OF, command) ? [waysOn(command, { isStopped: true, met })] : []));
+  placeStopped();
+}
+
+/** Shows the final states that a stopped search had met. */
+function showMetBefore() {
+  const { progress: { answer } } = working;
+  keepOwnRun();
+  putCommand('outcomes');
+  showMet(answer, showAsked('outcomes').options.depth, true);
+  byId('stopped').hidden = true;
+  focusAnswer();
+}
+
+/** Ends the work before it has an answer, with the focus at what one can do then. Where the machine is still in sight, it is driven on. */
 function stopWork() {
   if (bench.task === null) return;
   stopTask();
-  byId('said').textContent = 'Stopped.';
+  showSaid({ hint: '' }, '');
   sayStopped(currentCommand());
-  working.asker?.focus({ preventScroll: true });
+  (byId('stopped-ways').querySelector('button') ?? byId('stopped-close')).focus({ preventScroll: true });
+  byId('stopped').scrollIntoView({ block: 'nearest' });
   if (!drive.isOn) return;
   putCommand('run');
   showAsked('run');
@@ -72,4 +91,8 @@ document.addEventListener('keydown', event => {
   if (event.key === 'Escape') stopWork();
 });
 byId('stop').addEventListener('click', stopWork);
-byId('stopped-close').addEventListener('click', () => { byId('stopped').hidden = true; });
+byId('stopped').addEventListener('click', ({ target }) => 'met' in target.dataset && showMetBefore());
+byId('stopped-close').addEventListener('click', () => {
+  byId('stopped').hidden = true;
+  working.asker?.focus({ preventScroll: true });
+});

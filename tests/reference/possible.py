@@ -146,6 +146,7 @@ class Programs:
         self.written, self.left = {}, []
         for core in range(test.cores()):
             self.left.append(self.thread(core))
+        self.growing = {location for location in range(len(test.words)) if self.never_wraps(location)}
         self.boards = {}
 
     def thread(self, core):
@@ -186,6 +187,16 @@ class Programs:
     def is_counter(self, location):
         return self.is_written_locked(location) and all(self.addend(write) is not None for write in self.writes_to(location))
 
+    def amount(self, write):
+        """The number that a write writes, or that it adds to what its load part returns; None where it does something else."""
+        form, *parts = self.written[write]
+        return parts[0] if form == NUMBER else self.addend(write)
+
+    def never_wraps(self, location):
+        """All that writes to the location writes or adds numbers, which are less than 2^32 together with the initial word."""
+        amounts = [self.amount(write) for write in self.writes_to(location)]
+        return None not in amounts and self.test.words[location] + sum(amounts) < 2**32
+
     def is_in_order(self, read, source):
         """By program order: no source is a later write of the read's own core, or what this core has overwritten."""
         writes = [write for write in self.writes_to(read.location) if write.is_before(read)]
@@ -222,7 +233,7 @@ class Programs:
     def board(self, facts):
         """What these facts leave possible, the newest first: as many rounds as there are events, or until one changes nothing."""
         if facts not in self.boards:
-            board = Board(self, facts, {read: ([None] + self.writes_to(read.location), None) for read in self.reads})
+            board = Board(self, facts, {read: ([None] + self.writes_to(read.location), None, 0) for read in self.reads})
             for _ in self.events:
                 after = board.after_round()
                 if after.rows == board.rows:
@@ -233,7 +244,7 @@ class Programs:
 
 
 class Board:
-    """What facts leave possible, as one round tells it: of each read its sources and its values."""
+    """What facts leave possible, as one round tells it: of each read its sources, its values and its least."""
 
     def __init__(self, programs, facts, rows):
         self.programs, self.facts, self.rows, self.lasts = programs, facts, rows, {}
@@ -246,6 +257,9 @@ class Board:
 
     def values(self, read):
         return self.rows[read][1]
+
+    def least(self, read):
+        return self.rows[read][2]
 
     # ---- values
 
@@ -265,6 +279,20 @@ class Board:
     def values_from(self, read, source):
         return [self.programs.test.words[read.location]] if source is None else self.written(source)
 
+    # ---- the least
+
+    def least_written(self, write):
+        """Whoever adds 2 leaves at least 2."""
+        if write.location not in self.programs.growing:
+            return 0
+        amount = self.programs.amount(write)
+        if self.programs.written[write][0] == NUMBER:
+            return amount
+        return min(self.least(write._replace(kind=LOCKED_READ)) + amount, 2**32 - 1)
+
+    def least_from(self, read, source):
+        return self.programs.test.words[read.location] if source is None else self.least_written(source)
+
     # ---- which write comes first
 
     def is_put_before(self, first, second):
@@ -283,7 +311,13 @@ class Board:
                 return False
         if any(self.is_put_before(write, other) for other in self.programs.events):
             return False
-        return can_be(self.written(write), self.may_be_left(write.location))
+        values = self.written(write)
+        return not self.leaves_less(write) if values is None else can_be(values, self.may_be_left(write.location))
+
+    def leaves_less(self, write):
+        """A fact says that less is left than the least that the write writes."""
+        said = [fact.claim[2] for fact in self.of_kind(Holds) if fact.truth and fact.claim[:2] == ("location", write.location)]
+        return any(value < self.least_written(write) for value in said)
 
     def last_writes(self, location):
         if location not in self.lasts:
@@ -320,9 +354,14 @@ class Board:
         others = [other for other in self.programs.load_parts(read.location) if other != read]
         return any(all(one == source for one in self.sources(other)) for other in others)
 
+    def returns_less(self, read, source):
+        """A fact says that the read returns less than it can return from the source."""
+        said = [fact.value for fact in self.of_kind(Returns) if fact.read == read and fact.truth]
+        return any(value < self.least_from(read, source) for value in said)
+
     def can_read_from(self, read, source):
         return (self.may_read_from(read, source) and self.programs.is_in_order(read, source) and not self.is_taken(read, source)
-                and can_be(self.values_from(read, source), self.may_return(read)))
+                and can_be(self.values_from(read, source), self.may_return(read)) and not self.returns_less(read, source))
 
     def counts(self, read):
         """What the load part of a locked addition can return by counting; any of another read."""
@@ -340,8 +379,9 @@ class Board:
     def row_after(self, read):
         sources = [source for source in self.sources(read) if self.can_read_from(read, source)]
         values = any_of(self.values_from(read, source) for source in sources)
-        values = both(values, both(self.told_value(read), self.counts(read)))
-        return sources, kept(values, self.may_return(read))
+        values = kept(both(values, both(self.told_value(read), self.counts(read))), self.may_return(read))
+        leasts = [self.least_from(read, source) for source in sources] if values is None else values
+        return sources, values, min(leasts, default=0)
 
     def after_round(self):
         return Board(self.programs, self.facts, {read: self.row_after(read) for read in self.rows})

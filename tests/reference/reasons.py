@@ -8,14 +8,14 @@ A reason is held as `why --json` has it; its text is the same in lines.
 import json
 import re
 
-from . import machine, printing, seen, short_reasons
+from . import machine, printing, seen, printed_refutations
 from .candidates import DEPTHS, bare, candidate_of
 from .choices import read_choices
 from .machine import Configuration
 from .outcomes import PLAIN_CHOICES, form_of
 from .reading import Refused
 from .refutations import Wrong, asked_of, most_cases
-from .short_reasons import EVENT, differences, head_of
+from .printed_refutations import EVENT, differences, head_of
 
 # What is printed where the answer that is told is wrong.
 NO_REASON = "a reason\n"
@@ -36,7 +36,7 @@ def read_text(text, test):
     if head is None or lines.pop() != "":
         raise Wrong("no reason")
     if head[1] is None:
-        return short_reasons.read_text(text)
+        return printed_refutations.read_text(text)
     value = {"answer": "allowed", "test": lines[0].partition(" ")[2], "asked": None, "verdict": None, "model": head[1]}
     rest = lines[2:]
     if rest and rest[0].startswith("Asked "):
@@ -72,7 +72,7 @@ def read_allowed(lines):
 def text_of(value, test):
     """A reason as lines."""
     if value["answer"] == "never":
-        return short_reasons.text_of(value)
+        return printed_refutations.text_of(value)
     lines = ["Test " + value["test"], "Allowed " + value["model"]]
     if value["asked"] is not None:
         lines.append("Asked %s %s" % (value["asked"]["kind"], printing.truth_word(value["asked"]["truth"])))
@@ -90,8 +90,8 @@ def text_of(value, test):
 def reason_of(test, model, value, with_json=False):
     """The reason that is right, and is the one that is told up to what may differ; raises `Wrong` where that isn't right."""
     if value.get("answer") == "never":
-        short_reasons.judge(test, model, value, with_json)
-        return short_reasons.read_text(short_reasons.text_of(value))
+        printed_refutations.judge(test, model, value, with_json)
+        return printed_refutations.read_text(printed_refutations.text_of(value))
     return dict(head_of(test, model, True), **allowed_by(test, model, value["choices"]))
 
 

@@ -53,6 +53,34 @@ def clear_row(bench, folder):
     return faults + safety(bench)
 
 
+MANY = """X86 many
+{ }
+ P0         | P1         | P2         | P3         | P4          | P5          | P6         | P7         ;
+ MOV [x],$1 | MOV [x],$2 | MOV [x],$3 | MOV [x],$4 | MOV [a],$1  | MOV [b],$1  | MOV [x],$5 | MOV [x],$6 ;
+ MOV EBX,[x] | MOV EBX,[x] | MOV EBX,[x] | MOV EBX,[x] | MFENCE  | MFENCE      | MOV EBX,[x] | MOV EBX,[x] ;
+ MOV [y],$1 | MOV [y],$2 | MOV [y],$3 | MOV [y],$4 | MOV EAX,[b] | MOV EAX,[a] | MOV [y],$5 | MOV [y],$6 ;
+exists (4:EAX=%d /\\ 5:EAX=0)
+"""
+DRAWN = "[...document.querySelectorAll('.reason .head')].map(each => each.textContent)"
+
+
+def left_out_row(bench):
+    """Of many cores those without an arrow are left out, and of many arrows those that don't matter for what is asked; a box shows all."""
+    bench.open_fresh(width=1280)
+    faults, all_cores = [], ["P%d" % core for core in range(8)]
+    for word, kind, few in ((0, ".cycle", ["P4", "P5"]), (1, ".drawn-part", ["P4", "P5"])):
+        bench.fill("test", MANY % word)
+        bench.value("askWhy()")
+        bench.wait("!bench.task && document.querySelector('.reason %s')" % kind)
+        faults += differs("cores of %s" % kind, bench.value(DRAWN), few)
+        edges = bench.value("document.querySelectorAll('.reason [data-edge]').length")
+        bench.value("document.querySelector('.reason %s input[type=checkbox]').click()" % kind)
+        faults += differs("all cores of %s" % kind, bench.value(DRAWN), all_cores)
+        faults += [] if word == 0 or bench.value("document.querySelectorAll('.reason [data-edge]').length") > edges else ["all arrows are %d" % edges]
+        bench.value("backToRun()")
+    return faults + safety(bench)
+
+
 MOVED = "window.moved = []; Element.prototype.animate = function (frames) { moved.push([this.textContent, frames[0].transform !== frames[1].transform]); return { finished: Promise.resolve() }; }; true"
 
 
@@ -83,4 +111,5 @@ def weights_row(bench):
 
 def rows(page, folder):
     bench = Driver(page)
-    return [("pictures that are clear", lambda: clear_row(bench, folder)), ("what moves", lambda: motion_row(bench)), ("weights of buttons", lambda: weights_row(bench))]
+    return [("pictures that are clear", lambda: clear_row(bench, folder)), ("cores and arrows left out", lambda: left_out_row(bench)),
+            ("what moves", lambda: motion_row(bench)), ("weights of buttons", lambda: weights_row(bench))]

@@ -125,7 +125,8 @@ def wanted_core(trace, step, before, machine, number):
     ended = all(each["place"] == len(trace["programs"][at]) and not each["buffer"] for at, each in enumerate(machine["cores"]))
     holds = [" (holds the bus)" if bus["choice"] == "%d%s" % (number, way) else "" for way in "sd"]
     return {
-        "buttons": [(program[core["place"]] if core["place"] < len(program) else "at its end") + holds[0], (core["buffer"][0] if core["buffer"] else "empty") + holds[1]],
+        "buttons": [(program[core["place"]] if core["place"] < len(program) else "finished") + holds[0],
+                    (core["buffer"][0] if core["buffer"] else "empty") + holds[1]],
         "disabled": [ended, ended], "place": core["place"] if core["place"] < len(program) else -1, "program": program,
         "registers": {name: str(word) for name, word in core["registers"].items() if name in used_registers(trace, number)},
         "changedRegisters": ["%s=%d" % (name, word) for name, word in core["registers"].items() if word != old["registers"][name]],

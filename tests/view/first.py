@@ -70,13 +70,13 @@ def folds_row(bench):
 
 
 def tabs_row(bench):
-    """At most five tabs lead to the first button of a core, and the first stop skips to it."""
+    """At most six tabs lead to the first button of a core, past two of lessons, and the first stop skips to it."""
     bench.open_fresh()
     focused, stops = "document.activeElement.dataset.choice ?? document.activeElement.id", []
     while len(stops) < 12 and "0s" not in stops:
         bench.window.call("Input.dispatchKeyEvent", type="rawKeyDown", key="Tab", code="Tab", windowsVirtualKeyCode=9)
         stops.append(bench.value(focused))
-    faults = [] if len(stops) <= 5 else ["the stops are %s" % stops]
+    faults = [] if len(stops) <= 6 else ["the stops are %s" % stops]
     faults += differs("the first stop", stops[0], "skip")
     bench.value("byId('skip').focus(); byId('skip').click()")
     return faults + differs("after the skip", bench.value(focused), "0s") + safety(bench)
@@ -141,7 +141,7 @@ def meanings_row(bench):
     words = bench.value("[...document.querySelectorAll('[data-means]')].filter(each => each.getClientRects().length > 0).map(each => each.dataset.means)")
     faults = [] if {"GetM", "M", "Store buffer", "Memory", "order", "protocol", "seed"} <= set(words) else ["the words are %s" % words]
     for word in sorted(set(words)):
-        bench.value("(part => (part.matches('[tabindex]') ? part : part.querySelector('input, select')).focus())(document.querySelector('[data-means=\"%s\"]'))" % word)
+        bench.value("(part => (part.matches('[tabindex], button') ? part : part.querySelector('input, select')).focus())(document.querySelector('[data-means=\"%s\"]'))" % word)
         faults += differs("the meaning of " + word, bench.value("[byId('meaning').hidden, byId('meaning').textContent === MEANINGS['%s']]" % word), [False, True])
     bench.value("document.activeElement.blur()")
     return faults + differs("hidden", bench.value("byId('meaning').hidden"), True) + safety(bench)

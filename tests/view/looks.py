@@ -12,7 +12,7 @@ def widths_row(bench, folder, width):
     faults = []
     for name in ("4.SB.litmus", "spinlock.order"):
         bench.open(width=width)
-        bench.value("byId('library').open = true")
+        bench.value("byId('library').open = byId('from-c').open = true")
         bench.load(name)
         faults += bench.value(OVERHANGING)
         bench.window.screenshot(os.path.join(folder, "bench-%s-%d.png" % (name, width)))

@@ -1,13 +1,13 @@
-"""Rows for a lecture hall and for an engineer: lists of tests, machines abreast, tables of states, forms of an answer, a page in a page."""
+"""Rows for a lecture hall and for an engineer: machines abreast, tables of states, forms of an answer, a page in a page."""
 import json
 import os
 
 from bench import DIVIDING_LINE, OVERHANGING, READY, differs, safety
 from driver import Driver
-from kept import faults_of_form, saved_page
+from kept import saved_page
+from playlists import CLICKED
 from teaching import is_in_sight, press, test_of
 
-CLICKED = "document.body.dispatchEvent(new KeyboardEvent('keydown', { key: '%s', bubbles: true, cancelable: true }))"
 IN_SIGHT = "['#find-outcomes', '#ask-why', '[data-choice]', '.memory', '#frame', '#task', '#sentence', '#undo'].filter(each => { const { bottom, height } = document.querySelector(each).getBoundingClientRect(); return height === 0 || bottom > innerHeight; })"
 
 
@@ -41,39 +41,6 @@ def lecture_hall_row(bench, folder):
     bench.wait("!bench.task && document.querySelector('.states-sheet')")
     faults += differs("the way back", is_in_sight(bench, "#to-run"), True)
     bench.value("putLecture(false)")
-    return faults + safety(bench)
-
-
-def list_row(bench, folder):
-    """Tests of a list open one after the other, at their places; the list goes along in a saved page, and comes by a file."""
-    bench.open_fresh()
-    for name in ("SB", "MP", "IRIW"):
-        bench.value("loadText('%s.litmus'); goTo(1); addToList()" % name)
-    faults = differs("the list", bench.value("[...document.querySelectorAll('#list li')].map(each => each.firstElementChild.textContent)"), ["SB", "MP", "IRIW"])
-    bench.value("document.querySelector('[data-raised=\"2\"]').click()")
-    faults += differs("moved up", bench.value("[taught.list.map(({ name }) => name), taught.list[playlist.at].name]"), [["SB", "IRIW", "MP"], "IRIW"])
-    bench.value("document.querySelector('[data-raised=\"2\"]').click()")
-    name, text = saved_page(bench, "SAVES.page()")
-    faults += faults_of_form(text)
-    path = os.path.join(folder, "saved-list.html")
-    with open(path, "w") as file:
-        file.write(text)
-    bench.window.open("file://" + path)
-    bench.value(READY)
-    bench.wait("drive.isOn")
-    press(bench, "#list-bar [data-listed]:enabled")
-    opened = [bench.value("testName()")]
-    for _ in range(2):
-        press(bench, "#list-bar [data-listed]:last-child")
-        opened.append(bench.value("testName()"))
-    press(bench, "#list-bar [data-listed]:first-child")
-    opened.append(bench.value("testName()"))
-    faults += differs("opened", opened, ["SB", "MP", "IRIW", "MP"]) + differs("its place", bench.value("[drive.count, drive.words.length > 1]"), [1, bench.value("drive.words.length > 1")])
-    bench.window.requests.clear()
-    bench.open_fresh()
-    for list_of, said in (([{"name": "a", "address": "test=X86"}], ""), ([{"name": "a", "address": "javascript:alert(1)"}], "address"), ([{"name": 7, "address": "test="}], "name")):
-        bench.value("takeText(%s)" % json.dumps(json.dumps({"list": list_of})))
-        faults += [] if (said in bench.text("#message") if said else bench.value("taught.list.length") == 1) else ["of %s it says %r" % (list_of, bench.text("#message"))]
     return faults + safety(bench)
 
 
@@ -132,60 +99,50 @@ def line_row(bench):
     return faults + safety(bench)
 
 
-def clicker_row(bench):
-    """A clicker's key says what to do where no choice is known, and again leads on; it names the next test at a run's end, and leads there from a cycle's end and a sheet's too."""
+def exercise_row(bench, folder):
+    """An exercise is a page with the test alone: no choices, no list. Its task is open."""
     bench.open_fresh()
-    bench.value("addToList(); loadText('MP.litmus'); addToList(); askWhy()")
-    bench.wait("!bench.task && document.querySelector('.cycle')")
-    press(bench, "#way-back [data-add-to-list]")
-    faults = differs("a sheet of the list", bench.text("#way-back .listed"), "Added as 3 of 3.")
-    bench.value("openListed(0); addToList(); findOutcomes()")
+    bench.value("addToList(); loadText('store-buffering-fenced.litmus'); addToList(); goTo(3)")
+    name, text = saved_page(bench, "SAVES.exercise()")
+    path = os.path.join(folder, "exercise.html")
+    with open(path, "w") as file:
+        file.write(text)
+    bench.window.open("file://" + path)
+    bench.value(READY)
+    bench.wait("drive.isOn")
+    opened = bench.value("[testName(), drive.words, taught.list.length, byId('task').matches('.met')]")
+    faults = differs("its name", name, "SBF-exercise.html") + differs("opened", opened, ["SBF", [], 0, False])
+    bench.window.requests.clear()
+    return faults + safety(bench)
+
+
+def pointer_row(bench):
+    """A word is explained where the pointer moved to it, and not where the page changed under one that rests."""
+    bench.open_fresh()
+    told = "[byId('meaning').hidden, byId('meaning').textContent.slice(0, 16)]"
+    at = "document.querySelector('#machines h5[data-means]').dispatchEvent(new PointerEvent('pointerover', { bubbles: true, screenX: %d, screenY: 9 }))"
+    bench.value("document.body.dispatchEvent(new PointerEvent('pointermove', { bubbles: true, screenX: 7, screenY: 9 }))")
+    found = []
+    for x in (7, 8):
+        bench.value(at % x)
+        found.append(bench.value(told))
+    bench.value(CLICKED % "PageDown")
+    faults = differs("told", found, [[True, ""], [False, "The instructions"]])
+    return faults + differs("after a key", bench.value("byId('meaning').hidden"), True) + safety(bench)
+
+
+def never_listed_row(bench):
+    """Below the outcomes stands what is asked for, struck through, where no run ends so."""
+    bench.open_fresh()
+    bench.fill("test", test_of("SB+mfences"))
+    bench.value("findOutcomes()")
     bench.wait("!bench.task && document.querySelector('.states-sheet')")
-    bench.value("openListed(2); putLecture(true)")
-    bench.wait("!bench.task && document.querySelector('.cycle')")
-    bench.value("taught.list.push({ ...taught.list[0] }); drawList(); sheet.cycle.move('all')")
-    bench.value(CLICKED % "PageDown")
-    faults += differs("after a cycle", bench.value("[playlist.at, drive.isOn, testName()]"), [3, True, "SB"])
-    bench.value("taught.list.pop(); openListed(0)")
-    bench.value(CLICKED % "PageDown")
-    faults += differs("said", bench.text("#sentence"), "No choices yet: press a step or a drain of a core. Once more for the next test: MP.")
-    bench.value(CLICKED % "PageDown")
-    faults += differs("by the second press", bench.value("testName()"), "MP")
-    bench.value("openListed(0)")
-    for choice in "0s 1s 0s 1s 0d 1d".split():
-        press(bench, "[data-choice='%s']" % choice)
-    faults += [] if bench.text("#sentence").endswith(" Next: MP.") else ["at the end it says " + bench.text("#sentence")]
-    bench.value(CLICKED % "PageDown")
-    faults += differs("the next", bench.value("testName()"), "MP")
-    bench.value("putLecture(false)")
-    return faults + safety(bench)
-
-
-def kept_list_row(bench):
-    """A list says what was added, takes no test twice, and outlives a reload; what stands beside the machine belongs to its test; and a saved page is named."""
-    bench.open_fresh()
-    press(bench, "#add-to-list")
-    faults = differs("added", bench.text("#listed"), "Added as 1 of 1.")
-    press(bench, "#add-to-list")
-    faults += differs("twice", [bench.text("#listed"), bench.value("taught.list.length")], ["It is there already, as 1 of 1.", 1])
-    bench.value("putBeside(JSON.stringify(ABREAST)); takeFromLibrary('MP.litmus')")
-    faults += differs("beside the next test", bench.value("[drive.beside, drive.histories.length]"), [None, 1])
-    press(bench, "#add-to-list")
-    faults += differs("added", bench.text("#listed"), "Added as 2 of 2.")
-    bench.value("new Promise(done => setTimeout(done, 300))")
-    bench.window.reload()
-    bench.value(READY)
-    bench.wait("drive.isOn")
-    faults += differs("after a reload", bench.value("taught.list.map(({ name }) => name)"), ["SB", "MP"])
-    bench.value("document.querySelectorAll('[data-unlisted]')[1].click()")
-    bench.window.reload()
-    bench.value(READY)
-    bench.wait("drive.isOn")
-    faults += differs("after one was taken off", bench.value("taught.list.map(({ name }) => name)"), ["SB"])
-    bench.value("saveFile = () => {}; savePage()")
-    bench.wait("document.querySelector('.page-saved').textContent !== ''")
-    faults += [] if "Saved as MP.html" in bench.value("document.querySelector('.page-saved').textContent") else ["it doesn't say what was saved"]
-    return faults + safety(bench)
+    faults = differs("never", bench.value("[...document.querySelectorAll('tfoot td')].map(each => each.textContent)"), ["0", "0", "never, in no run"])
+    bench.value("backToRun()")
+    bench.fill("test", test_of("SB"))
+    bench.value("findOutcomes()")
+    bench.wait("!bench.task && document.querySelector('.states-sheet')")
+    return faults + differs("of SB", bench.value("document.querySelector('tfoot')"), None) + safety(bench)
 
 
 def back_to_answer_row(bench):
@@ -310,12 +267,12 @@ def rows(page, folder):
     bench = Driver(page)
     return [
         ("a lecture hall", lambda: lecture_hall_row(bench, folder)),
-        ("a list of tests", lambda: list_row(bench, folder)),
         ("a lecture on false sharing", lambda: lecture_fits_row(bench, folder)),
         ("a clicker that scrolls", lambda: clicker_scrolls_row(bench)),
         ("the line for a shell", lambda: line_row(bench)),
-        ("a clicker with nothing known", lambda: clicker_row(bench)),
-        ("a list that is kept", lambda: kept_list_row(bench)),
+        ("an exercise", lambda: exercise_row(bench, folder)),
+        ("a pointer that rests", lambda: pointer_row(bench)),
+        ("what never comes, below the outcomes", lambda: never_listed_row(bench)),
         ("back to an answer's run", lambda: back_to_answer_row(bench)),
         ("four protocols abreast", lambda: abreast_row(bench, folder)),
         ("a table of states", lambda: table_row(bench)),

@@ -214,7 +214,9 @@ def lecture_row(bench, folder):
     bench.window.click(".tools [data-lecture]")
     bench.wait("isLecture()")
     faults = [] if min(bench.value(sizes)) >= 20 else ["drawn code has a size of %.1f" % min(bench.value(sizes))]
-    faults += bench.value(OVERHANGING) + differs("in sight", bench.value("[...document.querySelectorAll('.tools > *')].filter(each => each.getClientRects().length > 0).map(each => each.textContent)"), ["End the lecture"])
+    tools = bench.value("[...document.querySelectorAll('.tools > :not(:empty), #way-back [data-lecture]')]"
+                        ".filter(each => each.getClientRects().length > 0).map(each => each.textContent)")
+    faults += bench.value(OVERHANGING) + differs("in sight", tools, ["End the lecture"])
     bench.window.screenshot(os.path.join(folder, "why-lecture.png"), whole=False)
     bench.value("toggleLecture()")
     return faults + differs("after it", bench.value("isLecture()"), False) + safety(bench)

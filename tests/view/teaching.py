@@ -82,8 +82,8 @@ def plain_row(bench):
     return faults + differs("with another protocol", bench.value("document.querySelector('.cache').getClientRects().length > 0"), True) + safety(bench)
 
 
-def go_through(bench, faults):
-    """Goes through a lesson by its own buttons and those of the cores. Answers the steps with the choices that are made after each."""
+def go_through(bench, faults, shows="true"):
+    """Goes through a lesson by its own buttons and those of the cores; `shows` is true of what a step shows. Answers the steps."""
     steps = bench.value("lesson.told.steps")
     for at, step in enumerate(steps):
         faults += differs("the step", bench.value("lesson.at"), at)
@@ -96,6 +96,9 @@ def go_through(bench, faults):
         if "show" in step:
             press(bench, "[data-show]")
             bench.wait("!bench.task")
+            faults += differs("shown", bench.value(shows), True)
+        if step.get("look"):
+            faults += differs("the picture is marked", bench.value("byId('frame').matches('.looked')"), True)
         faults += differs("done", bench.value("lesson.isDone"), True)
         after = step.get("then") or step.get("because")
         faults += [] if after is None or after in bench.text("#lesson-words") else ["it says " + bench.text("#lesson-words")]
@@ -104,24 +107,40 @@ def go_through(bench, faults):
     return steps
 
 
+def parts_of_lesson(bench, steps):
+    """The parts of a lesson, each a test and the steps on it that make a choice: a step with a test of its own begins another part."""
+    parts = [(bench.value("partsOf(textsHere().find(({ file }) => file === lesson.told.text).text).test"), [])]
+    for step in steps:
+        if "test" in step:
+            parts.append((step["test"], []))
+        if "do" in step:
+            parts[-1][1].append(step)
+    return parts
+
+
 def lesson_row(bench, name, shows):
-    """A lesson from its first step to its last; each choice does what it says, and at its end stands what it shows."""
+    """A lesson from its first step to its last; each choice does what it says, and what a step shows stands there."""
     bench.open_fresh()
     bench.value("beginLesson('%s')" % name)
     faults = []
-    steps = go_through(bench, faults)
-    words = [step["do"] for step in steps if "do" in step]
-    faults += differs("the choices", bench.value("choicesText().trim().split(/\\s+/)"), words)
-    faults += differs("shown", bench.value(shows), True)
-    test = bench.value("partsOf(textsHere().find(({ file }) => file === lesson.told.text).text).test")
+    parts = parts_of_lesson(bench, go_through(bench, faults, shows))
+    faults += differs("the choices", bench.value("choicesText().trim().split(/\\s+/)"), [step["do"] for step in parts[-1][1]])
     extra = {"false-sharing": ["--words", "2"], "compare-and-exchange": ["--instructions", "all"]}.get(name, [])
-    told = json.loads(bench.program(test + DIVIDING_LINE + " ".join(words), "trace", "--json", *extra)[1])["trace"]["steps"]
-    for step, made in zip([step for step in steps if "do" in step], told):
+    for test, steps in parts:
+        faults += faults_of_part(bench, test, steps, extra)
+    return faults + safety(bench)
+
+
+def faults_of_part(bench, test, steps, extra):
+    """What a lesson says of the choices of some steps, by what the program tells of them."""
+    told = json.loads(bench.program(test + DIVIDING_LINE + " ".join(step["do"] for step in steps), "trace", "--json", *extra)[1])["trace"]["steps"]
+    faults = []
+    for step, made in zip(steps, told):
         faults += ["%s: %s, and the lesson says %s" % (step["do"], made["outcome"], step["then"]) for word in ("stalled",) if made["outcome"] == word]
         read_of = re.search(r"P\d read (\w+)=(\d+)", step["then"])
         faults += [] if not read_of or any(entry.endswith("R %s=%s" % read_of.groups()) for entry in made["entries"]) else ["it says %s, and %s" % (step["then"], made["entries"])]
         faults += ["it says a miss, and %s" % made["access"] for _ in [0] if re.search(r"\bmiss\b", step["then"]) and made["access"] != "miss"]
-    return faults + safety(bench)
+    return faults
 
 
 def guided_row(bench):
@@ -150,10 +169,15 @@ def guided_row(bench):
     faults += differs("after a reload", bench.value("[lesson.told.name, lesson.at, drive.words]"), ["store-buffering", 3, ["0s"]])
     press(bench, "#lesson-leave")
     press(bench, "[data-choice='0s']")
-    faults += differs("free, at the start", bench.value("[lesson.told, drive.words, byId('lesson').hidden, byId('task').hidden]"), [None, ["0s"], True, False])
-    bench.value("beginLesson('store-buffering'); enterStep(lesson.told.steps.length - 1)")
+    free = bench.value("[lesson.told, drive.words, byId('lesson').hidden, byId('task').hidden]")
+    faults += differs("free, where one was", free, [None, ["0s", "0s"], True, False])
+    press(bench, "#lesson-again")
+    faults += differs("in the lesson again", bench.value("[lesson.at, drive.words]"), [3, ["0s"]])
+    bench.value("beginLesson('false-sharing'); enterStep(lesson.told.steps.length - 1)")
     press(bench, "#lesson-leave")
-    faults += differs("after the last step", bench.value("[drive.isOn, drive.words, byId('task').matches('.met'), byId('states').children.length]"), [True, [], False, 0])
+    faults += differs("its run is kept", bench.value("[drive.isOn, drive.words.length, byId('left-lesson').hidden]"), [True, 7, False])
+    press(bench, "#to-first-test")
+    faults += differs("back to store buffering", bench.value("[testName(), drive.words, byId('left-lesson').hidden]"), ["SB", [], True])
     return faults + safety(bench)
 
 
@@ -181,7 +205,8 @@ def plain_words_row(bench):
     faults = differs("what waits", bench.value("[...document.querySelectorAll('.not-yet')].map(each => each.textContent)"), ["still in bufferx=1"])
     sizes = bench.value("['#sentence', '.registers .word', '.memory .word', '.slot'].map(each => parseFloat(getComputedStyle(document.querySelector(each)).fontSize))")
     faults += [] if min(sizes[1:]) >= sizes[0] else ["sizes of the sentence, registers, memory, buffers: %s" % sizes]
-    for name, begins in (("SB", "Yes: 1 of 4 final states under TSO (store buffers of depth 32) has 0 in P0's EAX and 0 in P1's EAX."), ("MP", "No: none of 3 final states under TSO (store buffers of depth 32) has ")):
+    under = "final states under TSO (buffers of 32 stores, so never full) has "
+    for name, begins in (("SB", "Yes: 1 of 4 %s0 in P0's EAX and 0 in P1's EAX." % under), ("MP", "No: none of 3 " + under)):
         bench.fill("test", test_of(name))
         bench.value("findOutcomes()")
         bench.wait("!bench.task && document.querySelector('.states-sheet')")

@@ -21,7 +21,7 @@ def long_work_row(bench, folder):
     press(bench, "[data-choice='0s']")
     press(bench, "#find-outcomes")
     faults = differs("in sight", [is_in_sight(bench, "#working"), is_in_sight(bench, "#stop")], [True, True])
-    bench.wait("/More than [\\d,]+ states so far/.test(byId('working').textContent)")
+    bench.wait("/About [\\d,]+ of at most 10,000,000 states\\./.test(byId('working').textContent)")
     faults += differs("the machine beside it", bench.value("[drive.isOn, byId('run').hidden]"), [True, False])
     bench.window.screenshot(os.path.join(folder, "working.png"), whole=False)
     bench.value("document.body.dispatchEvent(new KeyboardEvent('keydown', { key: 'Escape', bubbles: true }))")
@@ -32,20 +32,54 @@ def long_work_row(bench, folder):
     return faults + differs("driven on", bench.value("drive.words"), ["0s", "1s"]) + safety(bench)
 
 
+def met_before_row(bench):
+    """What a search that is stopped beside the test had met can be shown; the box stands under the button that began it."""
+    bench.value("byId('test-part').open = true; putCommand('outcomes'); answerNow(); byId('begin').focus()")
+    press(bench, "#begin")
+    bench.wait("working.progress !== null && working.progress.count > 2000")
+    press(bench, "#stop")
+    met = bench.value("readMet(working.progress.answer.text).states.length")
+    faults = differs("beside the button", bench.value("byId('brief').nextElementSibling.id"), "stopped")
+    faults += differs("offered", bench.value("document.querySelectorAll('#stopped [data-met]').length"), int(met > 0))
+    if met == 0:
+        return faults
+    press(bench, "#stopped [data-met]")
+    shown = bench.value("[document.querySelectorAll('#states tbody tr').length, document.querySelector('.answer-title').textContent, byId('stopped').hidden]")
+    faults += differs("what never is isn't known", bench.value("document.querySelectorAll('#states tr.never').length"), 0)
+    return faults + differs("shown", shown, [met, "Some final states", True])
+
+
+def noted_row(bench):
+    """A register of the condition that no instruction of its core writes is named under the test, with its line; one that is written isn't."""
+    bench.open_fresh()
+    test = "X86 a\n{ 1:ECX=7; }\n P0 | P1 ;\n MOV [x],$1 | MOV EAX,[x] ;\nexists (%s)\n"
+    said = "Note, line 5: the condition names 1:%s, which no instruction of P1 writes: it stays %d."
+    faults = []
+    for condition, note in (("1:EAX=0", ""), ("1:EBX=0", said % ("EBX", 0)), ("1:ECX=7 /\\ 1:EAX=0", said % ("ECX", 7))):
+        bench.fill("test", test % condition)
+        faults += differs(condition, bench.value("[...document.querySelectorAll('.noticed')].map(each => each.textContent)"), [note, note])
+    bench.value("byId('test-part').open = true")
+    in_sight = "[...document.querySelectorAll('.noticed')].map(each => each.checkVisibility())"
+    faults += differs("in sight, once", bench.value(in_sight), [True, False])
+    bench.value("byId('test-part').open = false")
+    return faults + differs("where the test is folded", bench.value(in_sight), [False, True]) + safety(bench)
+
+
 def stopped_row(bench):
-    """A search tells its limit and about where it is; once it is stopped the page says so where the work was shown, and the focus is where it was."""
+    """A search tells its limit and about where it is; once it is stopped the page says so where the work was shown, and the focus is at what one can do."""
     bench.open_fresh()
     bench.fill("test", LONG_SEARCH)
     bench.value("settingOf('states').value = 10000000; true")
     bench.value("byId('find-outcomes').focus()")
     press(bench, "#find-outcomes")
-    bench.wait("/its limit is 10,000,000/.test(byId('working').textContent)")
-    bench.wait("/by its speed it is at about [1-9][\\d,]*/.test(byId('working').textContent)")
+    bench.wait("/About [1-9][\\d,]* of at most 10,000,000 states\\./.test(byId('working').textContent)")
     press(bench, "#stop")
-    faults = differs("in sight", is_in_sight(bench, "#stopped"), True) + differs("the focus", bench.value("document.activeElement.id"), "find-outcomes")
-    faults += ["it says " + bench.text("#stopped")] if not re.match(r"Stopped after \d+ s: there is no answer\. More than [\d,]+ states were kept by then\.", bench.text("#stopped")) else []
+    faults = differs("in sight", is_in_sight(bench, "#stopped"), True) + differs("the focus", bench.value("document.activeElement.dataset.ask"), "why")
+    said, stopped = bench.text("#stopped"), r"Stopped after \d+ s, at about [\d,]+ of at most 10,000,000 states: there is no whole answer\."
+    faults += [] if re.match(stopped, said) and "Begin again" in said else ["it says " + said]
     press(bench, "#stopped-close")
-    faults += differs("closed", bench.value("byId('stopped').hidden"), True)
+    faults += differs("closed", bench.value("[byId('stopped').hidden, document.activeElement.id]"), [True, "find-outcomes"])
+    faults += met_before_row(bench)
     bench.value("loadText('MP.litmus'); window.saved = []; saveFile = (name, blob) => { saved.push(blob); }; askWhy()")
     bench.wait("!bench.task && document.querySelector('.cycle')")
     press(bench, "[data-save=reason-svg]")
@@ -63,11 +97,18 @@ def brief_row(bench):
     bench.value("byId('begin').focus()")
     press(bench, "#begin")
     bench.wait("!bench.task && document.querySelector('.reason')")
-    faults += differs("said", bench.text("#brief-said"), "Yes: a run ends with 0 in P0's EAX and 0 in P1's EAX.") + differs("in sight", [is_in_sight(bench, "#brief"), is_in_sight(bench, "#test")], [True, True])
+    faults += differs("said", bench.text("#brief-said"), "Yes: a run ends with 0 in P0's EAX and 0 in P1's EAX.")
+    faults += differs("in sight", [is_in_sight(bench, "#brief"), is_in_sight(bench, "#test")], [True, True])
+    passed = r"(A load passes a store|Loads pass stores): P\d read \w before memory saw its store to \w \(P\d:1 passed P\d:0\)\."
+    faults += [] if re.search(passed, bench.text(".reason")) else ["it doesn't say what makes it possible: " + bench.text(".reason")]
     press(bench, "#to-answer")
     faults += differs("at the answer", [bench.value("document.activeElement.matches('.answer-title')"), is_in_sight(bench, ".answer-title")], [True, True])
+    bench.value("bench.took = 0; true")
     bench.fill("test", test_of("MP"))
-    return faults + differs("of another test", bench.value("byId('brief').hidden"), True) + safety(bench)
+    bench.wait("!bench.task && byId('brief-said').textContent.startsWith('No: no run')")
+    faults += differs("of another test, by itself", bench.text(".answer-title"), "Why it can't be")
+    bench.fill("test", test_of("MP") + "x")
+    return faults + differs("of one that is refused", bench.value("byId('brief').hidden"), True) + safety(bench)
 
 
 def deeper_run_row(bench):
@@ -261,6 +302,7 @@ def rows(page, folder):
     return [
         ("long work in sight", lambda: long_work_row(bench, folder)),
         ("a search that was stopped, in sight", lambda: stopped_row(bench)),
+        ("registers that nothing writes", lambda: noted_row(bench)),
         ("an answer in brief beside the test", lambda: brief_row(bench)),
         ("a deeper run of an answer", lambda: deeper_run_row(bench)),
         ("what was undone", lambda: said_undo_row(bench)),

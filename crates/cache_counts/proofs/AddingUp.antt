@@ -38,7 +38,7 @@ use Rattle.snoop_bus.specs.declared.access.Supplier.{Supplier}
 use Rattle.snoop_bus.specs.declared.access.Supplier.TheVariants.{Cache, Memory}
 use Rattle.tso_terms.specs.declared.instruction.Core.{Core}
 use Rattle.multiprocessor.specs.Answered.{answered_from}
-use Rattle.multiprocessor.specs.Caches.{Caches, Used, asking_by, asking_use, completing_by, is_awaited, use_of, used_between}
+use Rattle.multiprocessor.specs.Caches.{Caches, Used, asking_by, completing_by, is_awaited, use_of, used_between}
 use Rattle.multiprocessor.specs.Configuration.{Configuration}
 use Rattle.multiprocessor.specs.Statistics.{with_access, with_write_back}
 use Rattle.multiprocessor.specs.declared.accesses.CacheUse.{CacheUse}
@@ -50,6 +50,7 @@ use Rattle.machine_runs.specs.Runs.{AnswersFit, run_under}
 use Rattle.machine_runs.proofs.BusLemmas.{run-is}
 use Rattle.cache_counts.specs.AddingUp.{CountsAddUp, accesses_in, sum_of_uses}
 use Rattle.cache_counts.specs.Traffic.{from_cache, from_memory, requests_to_read, requests_to_write, with_requested}
+use Rattle.cache_counts.specs.declared.traffic.Traffic.{Traffic}
 use Rattle.cache_counts.specs.Uses.{core_use_at, uses_from, uses_of}
 use Rattle.cache_counts.proofs.UseSums.{CountsEach, MovesEach, core-is, counted-by-uses, moved-in-all}
 
@@ -87,7 +88,7 @@ requests_of (Some q) = 1
 abbrev requests_in : CacheUse → ℕ
 requests_in Unused = 0
 requests_in Forwarded = 0
-requests_in (Asked q) = 1
+requests_in (Asked q) = requests_of q
 requests_in (Through r) = requests_of r.request
 
 -- a line that was supplied
@@ -101,7 +102,7 @@ supplies_of (Some q) = lines_from q.supplier
 abbrev supplies_in : CacheUse → ℕ
 supplies_in Unused = 0
 supplies_in Forwarded = 0
-supplies_in (Asked q) = lines_from q.supplier
+supplies_in (Asked q) = supplies_of q
 supplies_in (Through r) = supplies_of r.request
 
 -- ---- what is awaited
@@ -128,9 +129,8 @@ record InStep (waits : Option Awaited → ℕ) (ask count : CacheUse → ℕ) : 
   whole : (t : Table) (write : Bool) (core line : ℕ) (caches : List TagSets)
       → ask (Through (whole_access t write core line caches).report) ≡ count (Through (whole_access t write core line caches).report)
   asks_so : (t : Table) (request : Request) (core line : ℕ) (caches : List TagSets)
-      → ask (asking_use (asking t request core line caches).request)
-      ≡ count (asking_use (asking t request core line caches).request)
-      + waits (asking t request core line caches).awaited
+      → ask (Asked (asking t request core line caches).request)
+      ≡ count (Asked (asking t request core line caches).request) + waits (asking t request core line caches).awaited
   completes_so : (t : Table) (core line : ℕ) (o : Option Awaited) (caches : List TagSets)
       → waits o + ask (Through (completed t core line o caches).report) ≡ count (Through (completed t core line o caches).report)
 
@@ -155,8 +155,8 @@ whole-request t write core line caches copy (Some next) = refl
 whole-request t write core line caches copy None = sym (completed-needs t core line (awaited_as write copy) _ _ _)
 
 asked-request : (t : Table) (request : Request) (line : ℕ) (caches : List TagSets) (o : Option Transient)
-    → requests_in (asking_use (option_map (requesting t request line caches) o))
-    ≡ needing_in (asking_use (option_map (requesting t request line caches) o)) + awaits (option_map (awaiting t request line caches) o)
+    → requests_in (Asked (option_map (requesting t request line caches) o))
+    ≡ needing_in (Asked (option_map (requesting t request line caches) o)) + awaits (option_map (awaiting t request line caches) o)
 asked-request t request line caches None = refl
 asked-request t request line caches (Some x) = refl
 
@@ -201,8 +201,8 @@ whole-supply t write core line caches copy None =
     moved-once (awaited_as write copy) _ ∙ sym (completed-misses t core line (awaited_as write copy) _ _ _)
 
 asked-supply : (t : Table) (request : Request) (line : ℕ) (caches : List TagSets) (o : Option Transient)
-    → supplies_in (asking_use (option_map (requesting t request line caches) o))
-    ≡ missing_in (asking_use (option_map (requesting t request line caches) o)) + awaits_line (option_map (awaiting t request line caches) o)
+    → supplies_in (Asked (option_map (requesting t request line caches) o))
+    ≡ missing_in (Asked (option_map (requesting t request line caches) o)) + awaits_line (option_map (awaiting t request line caches) o)
 unfolding awaiting requesting
 asked-supply t request line caches None = refl
 asked-supply t request line caches (Some x) = moved-once x _ ∙ (let z : gets x ≡ 0 + gets x = omega arith in z)
@@ -524,27 +524,28 @@ one-request : (r : Request) → requests_to_read r + requests_to_write r ≡ 1
 one-request GetS = refl
 one-request GetM = refl
 
+requested : (table : Table) (core : ℕ) (o : Option BusRequest) (x : Traffic)
+    → (with_requested table core o x).get_s + (with_requested table core o x).get_m ≡ x.get_s + x.get_m + requests_of o
+requested table core None x = omega arith
+requested table core (Some q) x = let one = one-request q.request in omega arith
+
 all-requests : (table : Table) (core : ℕ) → MovesEach table core (λ x. x.get_s + x.get_m) requests_in
 all-requests table core Unused x = omega arith
 all-requests table core Forwarded x = omega arith
-all-requests table core (Asked q) x = let one = one-request q.request in omega arith
-all-requests table core (Through r) x = by_request r.request
-  where
-    by_request : (o : Option BusRequest) → (with_requested table core o x).get_s + (with_requested table core o x).get_m ≡ x.get_s + x.get_m + requests_of o
-    by_request None = omega arith
-    by_request (Some q) = let one = one-request q.request in omega arith
+all-requests table core (Asked q) x = requested table core q x
+all-requests table core (Through r) x = requested table core r.request x
+
+supplied : (table : Table) (core : ℕ) (o : Option BusRequest) (x : Traffic)
+    → (with_requested table core o x).from_caches + (with_requested table core o x).from_memory
+    ≡ x.from_caches + x.from_memory + supplies_of o
+supplied table core None x = omega arith
+supplied table core (Some q) x = omega arith
 
 all-supplies : (table : Table) (core : ℕ) → MovesEach table core (λ x. x.from_caches + x.from_memory) supplies_in
 all-supplies table core Unused x = omega arith
 all-supplies table core Forwarded x = omega arith
-all-supplies table core (Asked q) x = omega arith
-all-supplies table core (Through r) x = by_request r.request
-  where
-    by_request : (o : Option BusRequest)
-        → (with_requested table core o x).from_caches + (with_requested table core o x).from_memory
-        ≡ x.from_caches + x.from_memory + supplies_of o
-    by_request None = omega arith
-    by_request (Some q) = omega arith
+all-supplies table core (Asked q) x = supplied table core q x
+all-supplies table core (Through r) x = supplied table core r.request x
 
 pub counts-add-up : AttemptsLeadFromStateToState → WhatHoldsSoFarOnEitherBus → AtomicRunsAreFlatRuns → CountsAddUp
 counts-add-up laws so_far flat t kind c choices k fit ended l =

@@ -32,7 +32,7 @@ use Rattle.cache_counts.specs.declared.traffic.Traffic.{Traffic}
 -- a number of a core's counts, to which a use of its own adds so much
 pub record CountsEach (number : Counts → ℕ) (of_use : CacheUse → ℕ) : Type 0 where
   pub unused : of_use Unused ≡ 0
-  pub asked : (q : BusRequest) → of_use (Asked q) ≡ 0
+  pub asked : (q : Option BusRequest) → of_use (Asked q) ≡ 0
   pub forwarded : (c : Counts) → number (with_forward c) ≡ number c + of_use Forwarded
   pub through : (r : AccessReport) (c : Counts) → number (with_write_back r.access.wrote_back (with_access r.access.kind c)) ≡ number c + of_use (Through r)
   pub flush : (c : Counts) → number (with_flush c) ≡ number c

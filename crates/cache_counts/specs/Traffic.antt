@@ -112,7 +112,7 @@ with_traffic_of_access table core r x = with_written_back r.access.wrote_back (w
 abbrev pub with_use : Table → ℕ → CacheUse → Traffic → Traffic
 with_use table core Unused x = x
 with_use table core Forwarded x = x
-with_use table core (Asked request) x = with_traffic_of_request table core request x
+with_use table core (Asked request) x = with_requested table core request x
 with_use table core (Through report) x = with_traffic_of_access table core report x
 
 -- with what a choice moved, if it was one of this core

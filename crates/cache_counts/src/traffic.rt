@@ -85,7 +85,7 @@ impl Traffic {
     {
         match how {
             CacheUse::Unused | CacheUse::Forwarded => self,
-            CacheUse::Asked(request) => self.with_request(protocol, core, request),
+            CacheUse::Asked(request) => self.with_requested(protocol, core, request),
             CacheUse::Through(report) => self.with_access(protocol, core, report),
         }
     }

@@ -10,7 +10,7 @@ use Rattle.tso_terms.specs.Litmus.{Litmus}
 use Rattle.tso_terms.specs.FlatMachine.{State, chosen}
 use Rattle.tso_terms.specs.MemoryAccess.{MemoryAccess, NoAccess, Reads, Writes, Locks, access_of}
 use Rattle.tso_terms.specs.SplitMachine.{Holder, Free, HeldBy, HeldBetween, needs_bus}
-use Rattle.basic_laws.specs.Types.{Atomic, Bus, Choice, Outcome, Step}
+use Rattle.basic_laws.specs.Types.{Atomic, Bus, Choice, Step}
 use Rattle.protocol_tables.specs.Tables.{Table}
 use Rattle.protocol_tables.specs.declared.requests.Transient.{Transient}
 use Rattle.protocol_tables.specs.declared.state.State as protocol
@@ -20,7 +20,7 @@ use Rattle.snoop_bus.specs.Rows.{table_of_rows}
 use Rattle.multiprocessor.specs.Caches.{Caches, Used, at_access, completing_by, hits_by, is_awaited}
 use Rattle.multiprocessor.specs.declared.accesses.CacheUse.{CacheUse}
 use Rattle.machine_core.specs.Looking.{bus_holder, bus_holder_as, bus_holder_of}
-use Rattle.machine_core.specs.Running.{Running, machine_after, machine_effect, machine_use}
+use Rattle.machine_core.specs.Running.{Running, machine_after, machine_use}
 use Rattle.machine_core.specs.Uses.{IsUseFor}
 use Rattle.trace_report.specs.Steps.{awaited_at}
 use Rattle.trace_report.proofs.FlushesTold.{IsSound, uses-of}
@@ -128,11 +128,11 @@ abbrev BesideOn : CacheUse → Holder → (Choice → MemoryAccess) → Option A
 BesideOn how holder before w next after now words core line = Beside how (for_line holder before w words core line) (for_line next after now words core line)
 
 module _ (on : Bus) (c : Caches) (a : Choice) (before after : Choice → MemoryAccess) (holder next : Holder)
-    (o : Outcome) (u : Used) (quiet : IsQuiet holder c.awaited) where
-  quiet-next : UsesOn on c a before after holder next o u → IsQuiet next u.caches.awaited
-  quiet-next (made it why stays acted) = λ free. (use-keeps c (chosen a) (before a) u it).1 ∙ quiet (sym stays.waits ∙ free)
-  quiet-next (unused is stays acted) = λ free. ap (λ (x : Used). x.caches.awaited) is ∙ quiet (sym stays.waits ∙ free)
-  quiet-next (begun split is outcome some free held same) = λ rest. absurd (true≢false (sym (ap is_awaited held) ∙ rest))
+    (u : Used) (quiet : IsQuiet holder c.awaited) where
+  quiet-next : UsesOn on c a before after holder next u → IsQuiet next u.caches.awaited
+  quiet-next (made it why stays) = λ free. (use-keeps c (chosen a) (before a) u it).1 ∙ quiet (sym stays.waits ∙ free)
+  quiet-next (unused is stays) = λ free. ap (λ (x : Used). x.caches.awaited) is ∙ quiet (sym stays.waits ∙ free)
+  quiet-next (begun split is some free held same) = λ rest. absurd (true≢false (sym (ap is_awaited held) ∙ rest))
   quiet-next (ended split is some held rest) = λ free. ap (λ (x : Used). x.caches.awaited) is ∙ completes-awaited c (chosen a) (before a) some
 
   made-asks : IsUseFor c (chosen a) (before a) u
@@ -172,13 +172,13 @@ module _ (on : Bus) (c : Caches) (a : Choice) (before after : Choice → MemoryA
         let held = stays.held other q in
         as_before (asks other held.0) (holding awaited other q held.0 held.1)
 
-    beside-on : UsesOn on c a before after holder next o u → BesideOn u.how holder before c.awaited next after u.caches.awaited words core line
-    beside-on (made it why stays acted) =
-        staying next refl (use-keeps c (chosen a) (before a) u it).1 stays (quiet-next (made it why stays acted)) (made-asks it why)
-    beside-on (unused is stays acted) =
-        staying next refl (ap (λ (x : Used). x.caches.awaited) is) stays (quiet-next (unused is stays acted))
+    beside-on : UsesOn on c a before after holder next u → BesideOn u.how holder before c.awaited next after u.caches.awaited words core line
+    beside-on (made it why stays) =
+        staying next refl (use-keeps c (chosen a) (before a) u it).1 stays (quiet-next (made it why stays)) (made-asks it why)
+    beside-on (unused is stays) =
+        staying next refl (ap (λ (x : Used). x.caches.awaited) is) stays (quiet-next (unused is stays))
         (λ other held. ap (λ (x : Used). request_made x.how) is)
-    beside-on (begun split is outcome some free held same) =
+    beside-on (begun split is some free held same) =
         nothing (ap (λ (h : Holder). for_line h before c.awaited words core line) free)
         (ap (λ (h : Holder). for_line h after u.caches.awaited words core line) held ∙ own-alone a after u.caches.awaited words core line apart)
     beside-on (ended split is some held rest) =
@@ -197,7 +197,7 @@ pub rest-kept : (m : Running) (c : Choice) → IsSound m → AtRest m → AtRest
 rest-kept m c sound quiet =
     quiet-next m.bus m.statistics.caches c (access_of m.test m.depth m.state.flat)
     (access_of m.test m.depth (machine_after m c).state.flat) m.state.holder (machine_after m c).state.holder
-    (machine_effect m c).effect.outcome (machine_use m c) quiet (uses-of m c sound).0
+    (machine_use m c) quiet (uses-of m c sound).0
 
 same-beside : (how : CacheUse) (before was after now : Option Transient) → before ≡ was → after ≡ now → Beside how was now → Beside how before after
 same-beside how before was after now p q b =
@@ -219,4 +219,4 @@ beside m c sound quiet core line apart =
     (line-is m.test m.depth next.state.flat (machine_use m c).caches.awaited next.state.holder next.statistics.caches.shape.words core line
     ∙ ap (λ (n : ℕ). for_line next.state.holder after (machine_use m c).caches.awaited n core line) (words-kept m c))
     (beside-on m.bus m.statistics.caches c before after m.state.holder next.state.holder
-    (machine_effect m c).effect.outcome (machine_use m c) quiet words core line apart (uses-of m c sound).0)
+    (machine_use m c) quiet words core line apart (uses-of m c sound).0)

@@ -23,6 +23,7 @@ use Rattle.cache_counts.specs.AddingUp.{sum_of_uses}
 use Rattle.cache_counts.specs.Traffic.{lines_written_back, sent, traffic_of, with_requested}
 use Rattle.cache_counts.specs.Uses.{uses_of}
 use Rattle.cache_counts.specs.declared.noting.CoreUse.{CoreUse}
+use Rattle.cache_counts.specs.declared.traffic.Traffic.{Traffic}
 use Rattle.cache_counts.proofs.UseSums.{MovesEach, moved-in-all}
 use Rattle.counted_steps.specs.StepSums.{steps_of_core}
 use Rattle.counted_steps.proofs.Along.{along, its-choice}
@@ -57,10 +58,15 @@ sent-alone x a s p = omega (arith, p)
 written-alone : (x b w : ℕ) → b ≡ w → x + b ≡ x + (0 + w)
 written-alone x b w p = omega (arith, p)
 
+asked-written : (table : Table) (k : ℕ) (o : Option BusRequest) (x : Traffic)
+    → (with_requested table k o x).to_memory ≡ x.to_memory + (one (is_some (sent_with o).flushed) + 0)
+asked-written table k None x = no-more x.to_memory
+asked-written table k (Some q) x = sent-alone x.to_memory (sent q.flushed) (one (is_some q.flushed)) (sent-once q.flushed)
+
 each-written : (table : Table) (k : ℕ) → MovesEach table k (λ x. x.to_memory) by_writing
 each-written table k Unused x = no-more x.to_memory
 each-written table k Forwarded x = no-more x.to_memory
-each-written table k (Asked q) x = sent-alone x.to_memory (sent q.flushed) (one (is_some q.flushed)) (sent-once q.flushed)
+each-written table k (Asked q) x = asked-written table k q x
 each-written table k (Through r) x = by_request r.request r.access.wrote_back
   where
     by_request : (o : Option BusRequest) (b : Bool)

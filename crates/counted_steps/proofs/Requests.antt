@@ -14,7 +14,7 @@ use Rattle.cache_set.specs.CacheTags.{TagSets, states_by_core}
 use Rattle.snoop_bus.specs.Asks.{Awaited, asked_for, completed, completed_in, next_in_place, request_for, requesting, tag_at, whole_in}
 use Rattle.snoop_bus.specs.Rows.{table_of_rows}
 use Rattle.snoop_bus.specs.declared.access.BusRequest.{BusRequest}
-use Rattle.multiprocessor.specs.Caches.{asking_use, is_awaited}
+use Rattle.multiprocessor.specs.Caches.{is_awaited}
 use Rattle.multiprocessor.specs.declared.accesses.CacheUse.{CacheUse}
 use Rattle.multiprocessor.specs.declared.accesses.CacheUse.TheVariants.{Asked, Forwarded, Through, Unused}
 use Rattle.multiprocessor.proofs.EachUse.{each-use}
@@ -23,6 +23,7 @@ use Rattle.trace_report.specs.Steps.{sent_by, sent_with, trace_step_of}
 pub use Rattle.trace_report.specs.SupplyLaws.{request_made}
 use Rattle.trace_report.specs.declared.step.LineRequest.{LineRequest}
 use Rattle.cache_counts.specs.Traffic.{copies_given_up, with_requested}
+use Rattle.cache_counts.specs.declared.traffic.Traffic.{Traffic}
 use Rattle.cache_counts.proofs.UseSums.{MovesEach}
 use Rattle.counted_steps.proofs.Sums.{no-more}
 
@@ -35,30 +36,31 @@ given_by table k (Some q) = copies_given_up table k q
 abbrev pub given_in : Table → ℕ → CacheUse → ℕ
 given_in table k how = given_by table k (request_made how)
 
+request-given : (table : Table) (k : ℕ) (o : Option BusRequest) (x : Traffic)
+    → (with_requested table k o x).invalidations ≡ x.invalidations + given_by table k o
+request-given table k None x = no-more x.invalidations
+request-given table k (Some q) x = refl
+
 pub each-given : (table : Table) (k : ℕ) → MovesEach table k (λ x. x.invalidations) (given_in table k)
 each-given table k Unused x = no-more x.invalidations
 each-given table k Forwarded x = no-more x.invalidations
-each-given table k (Asked q) x = refl
-each-given table k (Through r) x = by_request r.request
-  where
-    by_request : (o : Option BusRequest) → (with_requested table k o x).invalidations ≡ x.invalidations + given_by table k o
-    by_request None = no-more x.invalidations
-    by_request (Some q) = refl
+each-given table k (Asked q) x = request-given table k q x
+each-given table k (Through r) x = request-given table k r.request x
 
 -- ---- a step tells it
 
 abbrev pub line_request : BusRequest → LineRequest
 line_request q = record { request = q.request; line = q.line }
 
+request-sent : (o : Option BusRequest) → (sent_with o).request ≡ option_map line_request o
+request-sent None = refl
+request-sent (Some q) = refl
+
 sent-request : (how : CacheUse) → (sent_by how).request ≡ option_map line_request (request_made how)
 sent-request Unused = refl
 sent-request Forwarded = refl
-sent-request (Asked q) = refl
-sent-request (Through r) = by_request r.request
-  where
-    by_request : (o : Option BusRequest) → (sent_with o).request ≡ option_map line_request o
-    by_request None = refl
-    by_request (Some q) = refl
+sent-request (Asked q) = request-sent q
+sent-request (Through r) = request-sent r.request
 
 pub request-told : (m : Running) (c : Choice) → (trace_step_of m c).request ≡ option_map line_request (request_made (machine_use m c).how)
 unfolding trace_step_of
@@ -71,7 +73,7 @@ TellsStates caches None = Unit {0}
 TellsStates caches (Some q) = q.states ≡ states_by_core most_cores q.line caches
 
 asking-states : (t : Table) (request : Request) (line : ℕ) (caches : List TagSets) (o : Option Transient)
-    → TellsStates caches (request_made (asking_use (option_map (requesting t request line caches) o)))
+    → TellsStates caches (request_made (Asked (option_map (requesting t request line caches) o)))
 unfolding requesting
 asking-states t request line caches None = tt
 asking-states t request line caches (Some x) = refl

@@ -17,6 +17,7 @@ use Rattle.trace_report.specs.Steps.{access_kind_in, is_forwarded, sent_by, sent
 use Rattle.cache_counts.specs.AddingUp.{sum_of_uses}
 use Rattle.cache_counts.specs.Traffic.{requests_to_read, requests_to_write, with_requested}
 use Rattle.cache_counts.specs.Uses.{uses_from, uses_of}
+use Rattle.cache_counts.specs.declared.traffic.Traffic.{Traffic}
 use Rattle.cache_counts.proofs.UseSums.{CountsEach, MovesEach, counted-by-uses, moved-in-all}
 use Rattle.counted_steps.specs.StepSums.{CountsAreSumsOfSteps, has_request, reads_line, steps_of_core, was_hit, was_miss, was_upgrade, writes_line}
 use Rattle.counted_steps.proofs.Along.{along}
@@ -137,25 +138,27 @@ write-once GetM = refl
 add-same : (a b c : ℕ) → b ≡ c → a + b ≡ a + c
 add-same a b c h = ap (λ (n : ℕ). a + n) h
 
+request-read : (table : Table) (k : ℕ) (o : Option BusRequest) (x : Traffic)
+    → (with_requested table k o x).get_s ≡ x.get_s + one (has_request reads_line (sent_with o).request)
+request-read table k None x = omega arith
+request-read table k (Some q) x = add-same x.get_s _ _ (read-once q.request)
+
 each-read : (table : Table) (k : ℕ) → MovesEach table k (λ x. x.get_s) (by_request reads_line)
 each-read table k Unused x = omega arith
 each-read table k Forwarded x = omega arith
-each-read table k (Asked q) x = add-same x.get_s _ _ (read-once q.request)
-each-read table k (Through r) x = by_o r.request
-  where
-    by_o : (o : Option BusRequest) → (with_requested table k o x).get_s ≡ x.get_s + one (has_request reads_line (sent_with o).request)
-    by_o None = omega arith
-    by_o (Some q) = add-same x.get_s _ _ (read-once q.request)
+each-read table k (Asked q) x = request-read table k q x
+each-read table k (Through r) x = request-read table k r.request x
+
+request-write : (table : Table) (k : ℕ) (o : Option BusRequest) (x : Traffic)
+    → (with_requested table k o x).get_m ≡ x.get_m + one (has_request writes_line (sent_with o).request)
+request-write table k None x = omega arith
+request-write table k (Some q) x = add-same x.get_m _ _ (write-once q.request)
 
 each-write : (table : Table) (k : ℕ) → MovesEach table k (λ x. x.get_m) (by_request writes_line)
 each-write table k Unused x = omega arith
 each-write table k Forwarded x = omega arith
-each-write table k (Asked q) x = add-same x.get_m _ _ (write-once q.request)
-each-write table k (Through r) x = by_o r.request
-  where
-    by_o : (o : Option BusRequest) → (with_requested table k o x).get_m ≡ x.get_m + one (has_request writes_line (sent_with o).request)
-    by_o None = omega arith
-    by_o (Some q) = add-same x.get_m _ _ (write-once q.request)
+each-write table k (Asked q) x = request-write table k q x
+each-write table k (Through r) x = request-write table k r.request x
 
 pub sums-of-steps : CountsAreSumsOfSteps
 sums-of-steps t kind c choices k l =

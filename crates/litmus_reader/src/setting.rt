@@ -23,6 +23,7 @@ pub enum SpelledSetting<'a> {
 }
 
 /// `=v`: the value, and the tokens after it.
+#[inline(always)]
 #[tactic(auto, unfolding(crate::specs::Settings::value_at))]
 fn value_at<'a, 'b>(
     part: Part,
@@ -40,6 +41,7 @@ fn value_at<'a, 'b>(
     Ok(found)
 }
 
+#[inline(always)]
 #[tactic(auto, unfolding(crate::specs::Settings::register_setting))]
 fn register_setting<'a, 'b>(
     part: Part,

@@ -12,7 +12,7 @@ use Rattle.machine_core.proofs.Vocabulary.{HasEffect, MayAct, attempt_in, flat_e
 use Rattle.machine_core.proofs.Vocabulary.{begins_in, HasMade, IsUndone, effect_made_in}
 use Rattle.tso_terms.specs.FlatMachine.{State}
 use Rattle.multiprocessor.specs.declared.accesses.CacheUse.{CacheUse}
-use Rattle.multiprocessor.specs.Caches.{asking_use}
+use Rattle.multiprocessor.specs.declared.accesses.CacheUse.TheVariants as cache_use
 use Rattle.snoop_bus.specs.declared.access.BusRequest.{BusRequest}
 use Rattle.std.proofs.Common.{option_map}
 use Rattle.tso_terms.specs.declared.choice.Stall.TheVariants as stall
@@ -66,8 +66,8 @@ asked-caches old new core loc write request done machine = rw (machine.rows, mac
 
 -- and this went on the bus for it
 pub asked-how : (old new : BusModel) (core : Core) (loc : Loc) (write : Bool) (request : Option BusRequest) → AsksFor old new core loc write request
-    → asking_use request ≡ (ask_by (caches_of old) core.0 loc.0 write).how
-asked-how old new core loc write request done = ap asking_use done.request_is
+    → cache_use.Asked request ≡ (ask_by (caches_of old) core.0 loc.0 write).how
+asked-how old new core loc write request done = ap cache_use.Asked done.request_is
 
 -- an action that has asked keeps its access
 pub held-kept : (t : Litmus) (depth : ℕ) (state : State) (choice : Choice) (holder : Holder) → IsOther holder choice → HolderFits Split t depth state holder

@@ -87,7 +87,7 @@ fn begin<P: Protocol>(
             None => {
                 let request = hardware.bus.ask(core, loc, write);
                 hardware.next = Next::Complete(choice);
-                Ok((Outcome::Asked, CacheUse::asking(request)))
+                Ok((Outcome::Asked, CacheUse::Asked(request)))
             }
             Some(_) => Ok((Outcome::Stalled(Stall::Bus), CacheUse::Unused)),
         },

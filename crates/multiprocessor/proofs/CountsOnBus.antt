@@ -1,5 +1,5 @@
 -- The counts after a choice on either bus.
-use Rattle.multiprocessor.proofs.Vocabulary.{BusRequest, asking_use, ◌≡◌, ◌≢◌, ◌≤◌, ◌<◌, ◌+◌, ◌*◌, ◌⊎◌, inl, inr, ℕ, Bool, true, false}
+use Rattle.multiprocessor.proofs.Vocabulary.{◌≡◌, ◌≢◌, ◌≤◌, ◌<◌, ◌+◌, ◌*◌, ◌⊎◌, inl, inr, ℕ, Bool, true, false}
 use Rattle.multiprocessor.proofs.Vocabulary.{if◌then◌else◌, List, [], ◌∷◌, length, slice_set, Option, Some, None, All, refl, sym, ap, ◌∙◌}
 use Rattle.multiprocessor.proofs.Vocabulary.{subst, arith, sum_by, option_map, All-set, most_instructions, Litmus, CoreState, Effect}
 use Rattle.multiprocessor.proofs.Vocabulary.{chosen, core_of, idle, MemoryAccess, Holder, Free, HeldBy, HeldBetween, BusEffect, acts}
@@ -69,15 +69,11 @@ whole-among t write core line caches copy None =
 abbrev SendersAmong : ℕ → Used → Type 0
 SendersAmong n u = IsFlusherAmong n u.how × IsSenderAmong n u.caches.awaited
 
-asking-among : (n : ℕ) (o : Option BusRequest) → IsFlusherAmong n (asking_use o)
-asking-among n None = tt
-asking-among n (Some request) = tt
-
 pub senders : (before after : Bool) (c : Caches) (core : ℕ) (what : MemoryAccess) (pending commits : List Entry) → IsSenderAmong (length c.contents) c.awaited
     → SendersAmong (length c.contents) (used_between before after c core what pending commits)
 senders before after c core what pending commits h =
     each-use (SendersAmong (length c.contents)) c (tt, h) (tt, h) (λ k loc write. (whole-among (table_of_rows c.rows) write k _ c.contents _ _, h)) core
-    (λ loc write. (asking-among (length c.contents) _, asked-among (table_of_rows c.rows) (request_for write) core _ c.contents))
+    (λ loc write. (tt, asked-among (table_of_rows c.rows) (request_for write) core _ c.contents))
     (λ loc. (completed-among (table_of_rows c.rows) core _ (length c.contents) c.awaited c.contents h, tt)) before after what pending commits
 
 -- a core after an effect on either bus: no fewer instructions have made their accesses, and one more where an access is counted; none is

@@ -1,6 +1,6 @@
 -- What holds of each use of the caches: of none, of a load that a core's own stores answer, and of an access, whole or in its two
 -- halves.
-use Rattle.multiprocessor.proofs.Vocabulary.{ap, Option, None, Some, BusRequest, CacheUse, IsUncounted, asking_use, with_use_counted, ℕ}
+use Rattle.multiprocessor.proofs.Vocabulary.{ap, CacheUse, IsUncounted, with_use_counted, ℕ}
 use Rattle.multiprocessor.proofs.Vocabulary.{List, ◌∷◌, Bool, if◌then◌else◌, list_any, writes_to, Entry, Unused, Forwarded, Caches}
 use Rattle.multiprocessor.proofs.Vocabulary.{not_through, use_of, Used, ask_by, used_between, completion_by, use_by_kind, whole_by}
 use Rattle.multiprocessor.proofs.Vocabulary.{MemoryAccess, Kind, [], true, false, NoAccess, R, F, LW, ◌≡◌, refl, asking_by, at_access}
@@ -46,11 +46,7 @@ used-machine before after c core what pending commits =
 pub unused-uncounted : (how : CacheUse) → how ≡ Unused → IsUncounted how
 unused-uncounted how e = λ core cs. ap (λ u. with_use_counted core u cs) e
 
-asking-uncounted : (o : Option BusRequest) → IsUncounted (asking_use o)
-asking-uncounted None = λ core cs. refl
-asking-uncounted (Some request) = λ core cs. refl
-
 -- an ask is no access yet
 pub asks-uncounted : (c : Caches) (core : ℕ) (what : MemoryAccess) → IsUncounted (asking_by c core what).how
 asks-uncounted c core NoAccess = λ k cs. refl
-asks-uncounted c core _ = asking-uncounted _
+asks-uncounted c core _ = λ k cs. refl

@@ -23,7 +23,7 @@ pub use Rattle.multiprocessor.specs.declared.accesses.CacheUse.{CacheUse}
 pub use Rattle.multiprocessor.specs.declared.accesses.CacheUse.TheVariants.{Unused, Forwarded, Asked, Through}
 pub use Rattle.multiprocessor.specs.inner.Cores.{pending_in, effect_of_lock, effect_of_drain, effect_of_store, action_by, both_parts}
 pub use Rattle.multiprocessor.specs.inner.Cores.{at_next, word_on_bus, own_access, step_by, effect_of_fence, buffered_entries}
-pub use Rattle.multiprocessor.specs.Caches.{Caches, caches_of, not_through, asking_use, load_after, use_of, Used, at_access, ask_by}
+pub use Rattle.multiprocessor.specs.Caches.{Caches, caches_of, not_through, load_after, use_of, Used, at_access, ask_by}
 pub use Rattle.multiprocessor.specs.Caches.{is_awaited, used_between, completion_by, use_by_kind, use_with, whole_by, asking_by}
 pub use Rattle.multiprocessor.specs.Effects.{HasUsed, ChoiceAnswer}
 pub use Rattle.basic_laws.proofs.WithPending.{drain_with, fenced_with, locked_with}

@@ -1,14 +1,13 @@
 -- The caches of a run, without their words, and what the choices have to do with them: they go along by the bus's own
 -- definitions of an access that is made whole, and of its two halves on a split bus. (Primer, chapters 2, 6 and 7; which
 -- copies are sent to memory is this project's profile.)
-use Rattle.std.specs.Prelude.{ℕ, ◌/◌, Bool, true, false, if◌then◌else◌, List, [], ◌∷◌, Option, None, Some}
+use Rattle.std.specs.Prelude.{ℕ, ◌/◌, Bool, true, false, if◌then◌else◌, List, [], ◌∷◌, Option, None}
 use Rattle.std.specs.List.{list_any}
 use Rattle.multiprocessor.specs.Vocabulary.{access_of, after_on, Attempt, awaited_of, BusEffect, BusModel, BusState, chosen, contents_of}
 use Rattle.multiprocessor.specs.Vocabulary.{core_of, effect_on, Free, Geometry, HeldBetween, HeldBy, Holder, Litmus, Locks, MemoryAccess}
 use Rattle.multiprocessor.specs.Vocabulary.{NoAccess, Reads, State, table_of_rows, TableColumns, Writes, writes_to}
 use Rattle.basic_laws.specs.Types.{Loc, Entry, Kind, R, W, F, LR, LW, Choice}
 use Rattle.snoop_bus.specs.CacheContents.{Accessed}
-use Rattle.snoop_bus.specs.declared.access.BusRequest.{BusRequest}
 use Rattle.cache_set.specs.CacheTags.{TagSets}
 use Rattle.snoop_bus.specs.Asks.{Awaited, AskedAccess, hits, request_for, asking, completed, whole_access}
 use Rattle.multiprocessor.specs.declared.accesses.CacheUse.{CacheUse}
@@ -54,20 +53,15 @@ at_access none at (Reads loc) = at loc false
 at_access none at (Writes loc) = at loc true
 at_access none at (Locks loc) = at loc true
 
--- an ask by this request; a write access that hits has none
-abbrev pub asking_use : Option BusRequest → CacheUse
-asking_use None = Unused
-asking_use (Some request) = Asked request
-
 -- the first half of such an access on a split bus: the other caches see what is asked for, and that is awaited; it is no
--- access yet
+-- access yet. A write access that hits asks for nothing
 abbrev pub asked_with : Caches → AskedAccess → Caches
 asked_with c a = record { rows = c.rows; shape = c.shape; contents = a.caches; awaited = a.awaited }
 
 abbrev pub ask_by : Caches → ℕ → ℕ → Bool → Used
 ask_by c core loc write =
     let asked = asking (table_of_rows c.rows) (request_for write) core (loc / c.shape.words) c.contents in
-    not_through (asking_use asked.request) (asked_with c asked)
+    not_through (Asked asked.request) (asked_with c asked)
 
 -- of an action that may make no access
 abbrev pub asking_by : Caches → ℕ → MemoryAccess → Used

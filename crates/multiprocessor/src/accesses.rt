@@ -15,25 +15,10 @@ pub enum CacheUse {
     Unused,
     /// It was a load that the core's own pending stores answered.
     Forwarded,
-    /// It asked for a split bus, by this request. Its access isn't made yet.
-    Asked(BusRequest),
+    /// It asked for a split bus, by this request; by none where its write access hits. Its access isn't made yet.
+    Asked(Option<BusRequest>),
     /// It went through the core's cache, by this access.
     Through(AccessReport),
-}
-
-impl CacheUse {
-    ghost use Rattle.std.specs.Prelude.{◌≡◌};
-    ghost use Rattle.multiprocessor.specs.Caches.{asking_use};
-
-    /// What a choice had to do with the caches that asked for a split bus. A write access that hits has no request.
-    pub fn asking(request: Option<BusRequest>) -> CacheUse
-        ensures { result ≡ asking_use request }
-    {
-        match request {
-            None => CacheUse::Unused,
-            Some(request) => CacheUse::Asked(request),
-        }
-    }
 }
 
 /// What a choice is to read or write beyond its core's own buffer.

@@ -57,6 +57,7 @@ impl PendingStores {
 
     /// Appends a store. Hands it back, with nothing changed, exactly where as many stores are pending as
     /// the buffer's depth, and so where there is no buffer.
+    #[inline(always)]
     pub fn put(&mut self, store: Pending) -> Result<(), Pending>
         ensures full { (length self.old.items ≡ self.old.depth) ↔ (result ≡ Err store) }
         ensures ok { OnOk result (self.new ≡ stores (self.old.items ++ store ∷ []) self.old.depth) }

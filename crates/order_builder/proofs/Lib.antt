@@ -4,6 +4,7 @@ pub mod LineLemmas
 pub mod PrintLemmas
 pub mod LoopLemmas
 pub mod NumberLaws
+pub mod DigitLemmas
 pub mod NameLaws
 pub mod EntryLaws
 pub mod SpellingLaws

@@ -39,8 +39,8 @@ fn place_in(text: &[u8]) -> Option<(u8, u8)>
 {
     if let Some(numbers) = without_prefix(text, b"P")
         && let Some((core, place)) = split_once(numbers, b':')
-        && let Some(core) = number_within(core, u64::from(u8::MAX))
-        && let Some(place) = number_within(place, u64::from(u8::MAX))
+        && let Some(core) = number_within(core, u32::from(u8::MAX))
+        && let Some(place) = number_within(place, u32::from(u8::MAX))
     {
         return Some((core as u8, place as u8));
     }
@@ -94,9 +94,9 @@ fn access_in(test: &Test, text: &[u8]) -> Option<(u8, u32)>
 {
     if let Some((name, value)) = split_once(text, b'=')
         && let Some(loc) = location_named(test, name)
-        && let Some(value) = number_within(value, u64::from(u32::MAX))
+        && let Some(value) = number_within(value, u32::MAX)
     {
-        return Some((loc, value as u32));
+        return Some((loc, value));
     }
     None
 }

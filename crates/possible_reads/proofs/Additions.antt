@@ -39,7 +39,7 @@ pub record IsSum (own : Entry) (x : Expression) : Type 0 where
 no-addition : {A : Type 0} → is_addition None ≡ true → A
 no-addition h = let z : ⊥ = cc in absurd z
 
-is-sum : (own : Entry) (x : Expression) → is_addition (addend_in own x) ≡ true → IsSum own x
+pub is-sum : (own : Entry) (x : Expression) → is_addition (addend_in own x) ≡ true → IsSum own x
 is-sum own (Constant value) h = no-addition h
 is-sum own (Returned read) h = no-addition h
 is-sum own (Negated inner) h = no-addition h

@@ -5,6 +5,7 @@ pub mod Coherence
 pub mod Meeting
 pub mod Additions
 pub mod Counting
+pub mod Least
 pub mod Lists
 pub mod Rounds
 pub mod Ends

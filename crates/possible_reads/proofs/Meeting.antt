@@ -1,5 +1,6 @@
 -- What a candidate that meets facts returns, reads from and orders, as the tests on facts ask it.
-use Rattle.possible_reads.proofs.Vocabulary.{◌≡◌, ◌==◌, ℕ, Bool, true, false, not, if◌then◌else◌, List, [], ◌∷◌, Option, Some, None, refl}
+use Rattle.possible_reads.proofs.Vocabulary.{◌≡◌, ◌==◌, ◌≤◌, ◌<◌, arith, nat_tests, nat_lt, ℕ, Bool, true, false, not, List, [], ◌∷◌}
+use Rattle.possible_reads.proofs.Vocabulary.{if◌then◌else◌, Option, Some, None, refl}
 use Rattle.possible_reads.proofs.Vocabulary.{sym, ap, ◌∙◌, inl, inr, subst, list_any, list_all, Entry, Litmus, bare, same_event, Stands}
 use Rattle.possible_reads.proofs.Vocabulary.{IsSameSource, Candidate, and-both, or-either, same-number, IsBefore, is-false, last_in}
 use Rattle.refutation_laws.proofs.Tests.{and-of}
@@ -9,9 +10,9 @@ use Rattle.refutation_laws.proofs.Agreeing.{stands-for}
 use Rattle.tso_terms.specs.Condition.{TruthClaim, RegClaim, LocClaim, NotClaim, AndClaim, OrClaim}
 use Rattle.possible_reads.specs.Facts.{Fact, From, Before, Last, Returns, Holds}
 use Rattle.possible_reads.specs.Possible.{same_source, same_number, fits_word, may_be_left, fits_last, told_word, is_told_before}
-use Rattle.possible_reads.specs.Possible.{fits_value, may_return, told_value, fits_source}
+use Rattle.possible_reads.specs.Possible.{fits_value, may_return, told_value, fits_source, returns_less, leaves_less, Values, can_be_left}
 use Rattle.possible_reads.specs.Laws.{IsMet, AreMet, IsPossible, word_in}
-use Rattle.possible_reads.proofs.Values.{itself-possible}
+use Rattle.possible_reads.proofs.Values.{itself-possible, possible-test}
 
 -- ---- sources
 
@@ -36,6 +37,9 @@ source-of-same (Some w) (Some v) (Some z) h q = same-bare w v h ∙ q
 pub number-fits : (n value : ℕ) (truth : Bool) → (n == value) ≡ truth → same_number truth value n ≡ true
 number-fits n value true h = h
 number-fits n value false h = ap not h
+
+too-small : (n value least : ℕ) → n ≡ value → least ≤ n → nat_lt value least ≡ true → ⊥
+too-small n value least e l h = let k : value < least = grind (arith, nat_tests) in omega arith
 
 -- ---- facts
 
@@ -99,6 +103,24 @@ module _ (t : Litmus) (c : Candidate) where
   told (Returns e value false ∷ facts) m read r at = told facts m.1 read r at
   told (Holds claim truth ∷ facts) m read r at = told facts m.1 read r at
 
+  -- no fact says that it returns less than this
+  no-less-fact : (read r : Entry) (least : ℕ) → Stands t c read r → least ≤ r.value → (f : Fact) → IsMet t c f
+      → returns_less read least f ≡ true → ⊥
+  no-less-fact read r least at l (From e write truth) m h = let z : ⊥ = cc in z
+  no-less-fact read r least at l (Before first second) m h = let z : ⊥ = cc in z
+  no-less-fact read r least at l (Last write truth) m h = let z : ⊥ = cc in z
+  no-less-fact read r least at l (Returns e value true) m h =
+      let n = and-both (same_event e read) (nat_lt value least) h in
+      too-small r.value value least (same-number r.value value (m r (stands-for t c e read r n.0 at))) l n.1
+  no-less-fact read r least at l (Returns e value false) m h = let z : ⊥ = cc in z
+  no-less-fact read r least at l (Holds claim truth) m h = let z : ⊥ = cc in z
+
+  pub returns-no-less : (facts : List Fact) → AreMet t c facts → (read r : Entry) (least : ℕ) → Stands t c read r → least ≤ r.value
+      → not (list_any (returns_less read least) facts) ≡ true
+  returns-no-less facts m read r least at l =
+      ap not (is-false (list_any (returns_less read least) facts)
+      (any-met (returns_less read least) ⊥ (λ f g h. no-less-fact read r least at l f g h) facts m))
+
   -- the last word fits what is met
   word-fits-fact : (loc : ℕ) (f : Fact) → IsMet t c f → fits_word loc (word_in t c loc) f ≡ true
   word-fits-fact loc (From e write truth) m = refl
@@ -118,6 +140,35 @@ module _ (t : Litmus) (c : Candidate) where
 
   pub word-fits : (facts : List Fact) → AreMet t c facts → (loc : ℕ) → may_be_left facts loc (word_in t c loc) ≡ true
   word-fits facts m loc = all-met (fits_word loc (word_in t c loc)) (λ f g. word-fits-fact loc f g) facts m
+
+  -- no fact says that less than this is left
+  no-less-word : (loc least : ℕ) → least ≤ word_in t c loc → (f : Fact) → IsMet t c f → leaves_less loc least f ≡ true → ⊥
+  no-less-word loc least l (From e write truth) m h = let z : ⊥ = cc in z
+  no-less-word loc least l (Before first second) m h = let z : ⊥ = cc in z
+  no-less-word loc least l (Last write truth) m h = let z : ⊥ = cc in z
+  no-less-word loc least l (Returns e value truth) m h = let z : ⊥ = cc in z
+  no-less-word loc least l (Holds (LocClaim other value) true) m h =
+      let n = and-both (other == loc) (nat_lt value least) h in
+      too-small (word_in t c loc) value least
+      (same-number (word_in t c loc) value (subst (λ k. (word_in t c k == value) ≡ true) (same-number other loc n.0) m)) l n.1
+  no-less-word loc least l (Holds (LocClaim other value) false) m h = let z : ⊥ = cc in z
+  no-less-word loc least l (Holds (TruthClaim b) truth) m h = let z : ⊥ = cc in z
+  no-less-word loc least l (Holds (RegClaim core reg value) truth) m h = let z : ⊥ = cc in z
+  no-less-word loc least l (Holds (NotClaim inner) truth) m h = let z : ⊥ = cc in z
+  no-less-word loc least l (Holds (AndClaim left right) truth) m h = let z : ⊥ = cc in z
+  no-less-word loc least l (Holds (OrClaim left right) truth) m h = let z : ⊥ = cc in z
+
+  leaves-no-less : (facts : List Fact) → AreMet t c facts → (loc least : ℕ) → least ≤ word_in t c loc
+      → not (list_any (leaves_less loc least) facts) ≡ true
+  leaves-no-less facts m loc least l =
+      ap not (is-false (list_any (leaves_less loc least) facts)
+      (any-met (leaves_less loc least) ⊥ (λ f g h. no-less-word loc least l f g h) facts m))
+
+  -- what the last write leaves can be left
+  pub left-possible : (facts : List Fact) → AreMet t c facts → (loc : ℕ) (values : Values) (least : ℕ) → IsPossible values (word_in t c loc)
+      → least ≤ word_in t c loc → can_be_left facts loc values least ≡ true
+  left-possible facts m loc None least h l = leaves-no-less facts m loc least l
+  left-possible facts m loc (Some values) least h l = possible-test (Some values) (may_be_left facts loc) (word_in t c loc) h (word-fits facts m loc)
 
   pub told-of-word : (facts : List Fact) → AreMet t c facts → (loc : ℕ) → IsPossible (told_word facts loc) (word_in t c loc)
   told-of-word [] m loc = refl

@@ -1,6 +1,6 @@
 -- After each round what each read reads from and returns is among what is possible: so is what writes write, the order that is known
 -- is right, and the last write is among those that can be it.
-use Rattle.possible_reads.proofs.Vocabulary.{◌≡◌, ◌&&◌, ◌==◌, ℕ, zero, suc, Bool, true, false, not, if◌then◌else◌, List, [], ◌∷◌, Option}
+use Rattle.possible_reads.proofs.Vocabulary.{◌≡◌, ◌≤◌, arith, ◌&&◌, ◌==◌, ℕ, zero, suc, Bool, true, false, not, if◌then◌else◌, List, [], ◌∷◌, Option}
 use Rattle.possible_reads.proofs.Vocabulary.{Some, None, refl, sym, ap, ◌∙◌, inl, inr, subst, map, filter, list_any, list_all, slice_get}
 use Rattle.possible_reads.proofs.Vocabulary.{slice_index, Entry, LR, Litmus, IsIn, in-first, in-later, in-filter, filter-in, bare}
 use Rattle.possible_reads.proofs.Vocabulary.{events_of, same_event, Stands, IsSameSource, Candidate, events, is_read, is_write, writes_to}
@@ -20,17 +20,20 @@ use Rattle.refutation_laws.proofs.Agreeing.{source-in}
 use Rattle.refutation_laws.proofs.Cycles.{carried, carried-one}
 use Rattle.possible_reads.specs.Expressions.{expression_of}
 use Rattle.possible_reads.specs.Facts.{Fact}
+use Rattle.possible_reads.specs.Possible.{Values, can_be, least_read, least_written, least_from, least_after, smallest}
 use Rattle.possible_reads.specs.Possible.{Reading, any_of, values_read, sources_read, same_source, values_written, values_from, may_be_left}
 use Rattle.possible_reads.specs.Possible.{fits_last, is_told_before, is_put_before, can_be_last, last_writes, is_last, told_value}
 use Rattle.possible_reads.specs.Possible.{may_return, fits_source, is_in_order, takes, is_taken, can_read_from, sources_after, values_after}
 use Rattle.possible_reads.specs.Possible.{kept, reading_after, readings_after, counts}
-use Rattle.possible_reads.specs.Laws.{AreMet, IsPossible, HasSourceAmong, HasLastWrite, ReadIsPossible}
+use Rattle.possible_reads.specs.Laws.{AreMet, IsPossible, word_in, HasSourceAmong, HasLastWrite, ReadIsPossible}
 use Rattle.possible_reads.proofs.Lists.{at-filter, at-map, all-at, of-map, any-passes}
-use Rattle.possible_reads.proofs.Values.{possible-test, itself-possible, both-possible, any-possible, kept-possible, value-possible}
+use Rattle.possible_reads.proofs.Values.{among-at, possible-test, itself-possible, both-possible, any-possible, kept-possible, value-possible}
 use Rattle.possible_reads.proofs.Programs.{returned_in, returns, writes-value}
 use Rattle.possible_reads.proofs.Coherence.{none-passes, last-before-none, before-last, stands-in, in-program, source-in-order}
 use Rattle.possible_reads.proofs.Meeting.{source-of-same, all-met, source-fits, returns-so, told, word-fits, last-fits, told-before}
+use Rattle.possible_reads.proofs.Meeting.{returns-no-less, left-possible}
 use Rattle.possible_reads.proofs.Counting.{IsOrdered, count-possible}
+use Rattle.possible_reads.proofs.Least.{smallest-is, written-least}
 
 -- the value of the last write is the last word
 pub last-value : (ws : List Entry) (word : ℕ) (x : Entry) → last_in ws ≡ Some x → last_word ws word ≡ x.value
@@ -48,10 +51,15 @@ module _ (no_two : NoTwoReadOneSource) (reads : ReadsAddUp) (t : Litmus) (c : Ca
     pub event : IsIn (events_of t) x.read
     pub sources : (r : Entry) → Stands t c x.read r → is_read r ≡ true → HasSourceAmong c r x.sources
 
+  -- no read returns less than what a table says
+  abbrev pub AreLeast : List Reading → Type 0
+  AreLeast table = (read r : Entry) → Stands t c read r → is_read r ≡ true → least_read table read ≤ r.value
+
   -- what a table says is so
   pub record ArePossible (table : List Reading) : Type 0 where
     pub sources : (read r : Entry) → Stands t c read r → is_read r ≡ true → HasSourceAmong c r (sources_read t table read)
     pub values : (e : Entry) → IsPossible (values_read table e) (returned_in t c d e)
+    pub least : AreLeast table
     pub rows : (i : ℕ) (x : Reading) → slice_get table i ≡ Some x → RowIsPossible x
 
   -- ---- one table
@@ -61,6 +69,9 @@ module _ (no_two : NoTwoReadOneSource) (reads : ReadsAddUp) (t : Litmus) (c : Ca
     written-possible w x s k =
         subst (IsPossible (values_written t table w)) (writes-value t c d w x s k)
         (value-possible (values_read table) (returned_in t c d) h.values (expression_of t w))
+
+    no-less : (w x : Entry) → Stands t c w x → is_write x ≡ true → least_written t table w ≤ x.value
+    no-less w x s k = written-least t c d a table h.least w x s k
 
     -- the last write
 
@@ -82,13 +93,15 @@ module _ (no_two : NoTwoReadOneSource) (reads : ReadsAddUp) (t : Litmus) (c : Ca
         (and-of (writes_to loc (bare x) && list_all (fits_last loc (bare x)) facts) (not (list_any (is_put_before facts (bare x)) (events_of t)))
         (and-of (writes_to loc (bare x)) (list_all (fits_last loc (bare x)) facts) to
         (last-fits t c facts met loc (bare x) x refl (location loc x to) last)) none)
-        (possible-test (values_written t table (bare x)) (may_be_left facts loc) x.value
-        (written-possible (bare x) x itself (writes loc x to))
-        (subst (λ n. may_be_left facts loc n ≡ true) (last-value (c.coherence loc) (slice_index t.words loc) x last)
-        (word-fits t c facts met loc)))
+        (left-possible t c facts met loc (values_written t table (bare x)) (least_written t table (bare x))
+        (subst (IsPossible (values_written t table (bare x))) word (written-possible (bare x) x itself (writes loc x to)))
+        (subst (λ n. least_written t table (bare x) ≤ n) word (no-less (bare x) x itself (writes loc x to))))
       where
         itself : Stands t c (bare x) x
         itself = record { inside = i; same = refl }
+
+        word : x.value ≡ word_in t c loc
+        word = sym (last-value (c.coherence loc) (slice_index t.words loc) x last)
 
         none : not (list_any (is_put_before facts (bare x)) (events_of t)) ≡ true
         none = none-passes (is_put_before facts (bare x)) (events_of t) (λ e j p.
@@ -214,6 +227,18 @@ module _ (no_two : NoTwoReadOneSource) (reads : ReadsAddUp) (t : Litmus) (c : Ca
             subst (IsPossible (values_written t table w)) (sym f.2)
             (written-possible w z (record { inside = f.0; same = k }) (writes r.loc.0 z f.1))
 
+    from-least : (read r : Entry) (s : Option Entry) → Stands t c read r → is_read r ≡ true → IsSameSource s (c.source r)
+        → least_from t table read s ≤ r.value
+    from-least read r s at p same = go s (c.source r) (a.candidate.reads r at.inside p) same
+      where
+        go : (s o : Option Entry) → ReturnsFrom t c r o → IsSameSource s o → least_from t table read s ≤ r.value
+        go None None f k =
+            let e : slice_index t.words read.loc.0 ≡ r.value = ap (λ (z : Entry). slice_index t.words z.loc.0) at.same ∙ sym f in omega arith
+        go None (Some z) f k = absurd k
+        go (Some w) None f k = absurd k
+        go (Some w) (Some z) f k =
+            subst (λ n. least_written t table w ≤ n) (sym f.2) (no-less w z (record { inside = f.0; same = k }) (writes r.loc.0 z f.1))
+
     source-after : (read r : Entry) → Stands t c read r → is_read r ≡ true → HasSourceAmong c r (sources_after t facts table read)
     source-after read r at p =
         let f = h.sources read r at p in
@@ -222,13 +247,16 @@ module _ (no_two : NoTwoReadOneSource) (reads : ReadsAddUp) (t : Litmus) (c : Ca
       where
         stays : (s : Option Entry) → IsSameSource s (c.source r) → can_read_from t facts table read s ≡ true
         stays s same =
-            and-of (list_all (fits_source read s) facts && is_in_order t read s && not (is_taken table read s)) _
+            and-of (list_all (fits_source read s) facts && is_in_order t read s && not (is_taken table read s)
+            && can_be (values_from t table read s) (may_return facts read)) _
+            (and-of (list_all (fits_source read s) facts && is_in_order t read s && not (is_taken table read s)) _
             (and-of (list_all (fits_source read s) facts && is_in_order t read s) _
             (and-of (list_all (fits_source read s) facts) _
             (all-met t c (fits_source read s) (λ f g. source-fits t c read r s at same f g) facts met)
             (source-in-order t c d a.uniproc read r s at p same)) (untaken read r s at p same))
             (possible-test (values_from t table read s) (may_return facts read) r.value (from-possible read r s at p same)
-            (returns-so t c facts met read r at))
+            (returns-so t c facts met read r at)))
+            (returns-no-less t c facts met read r (least_from t table read s) at (from-least read r s at p same))
 
     value-after : (read r : Entry) → Stands t c read r → is_read r ≡ true
         → IsPossible (kept (may_return facts read) (values_after t facts table read (sources_after t facts table read))) r.value
@@ -241,6 +269,18 @@ module _ (no_two : NoTwoReadOneSource) (reads : ReadsAddUp) (t : Litmus) (c : Ca
         (both-possible (told_value facts read) (counts t facts table read) r.value (told t c facts met read r at)
         (count-possible reads t c a facts table ordered read r at)))
         (returns-so t c facts met read r at)
+
+    least-after : (read r : Entry) → Stands t c read r → is_read r ≡ true → (reading_after t facts table read).least ≤ r.value
+    least-after read r at p = go (reading_after t facts table read).values (value-after read r at p)
+      where
+        go : (vs : Values) → IsPossible vs r.value → least_after t table read (sources_after t facts table read) vs ≤ r.value
+        go (Some vs) possible = let k = among-at vs r.value possible in smallest-is vs k.0 r.value k.1
+        go None possible =
+            let f = source-after read r at p in
+            let l : smallest (map (least_from t table read) (sources_after t facts table read)) ≤ least_from t table read f.source =
+            smallest-is (map (least_from t table read) (sources_after t facts table read)) f.number (least_from t table read f.source)
+            (at-map (least_from t table read) (sources_after t facts table read) f.number f.source f.among) in
+            let m : least_from t table read f.source ≤ r.value = from-least read r f.source at p f.same in omega arith
 
   -- ---- all rounds
 
@@ -289,6 +329,15 @@ module _ (no_two : NoTwoReadOneSource) (reads : ReadsAddUp) (t : Litmus) (c : Ca
         go true q rest = source-after table h x r (record { inside = at.inside; same = same-bare x read q ∙ at.same }) p
         go false q rest = rest
 
+    next-least : (es : List Entry) → AreLeast (map (reading_after t facts table) es)
+    next-least [] read r at p = omega arith
+    next-least (x ∷ xs) read r at p = go (same_event x read) refl (next-least xs read r at p)
+      where
+        go : (b : Bool) → same_event x read ≡ b → least_read (map (reading_after t facts table) xs) read ≤ r.value
+            → (if b then (reading_after t facts table x).least else least_read (map (reading_after t facts table) xs) read) ≤ r.value
+        go true q rest = least-after table h x r (record { inside = at.inside; same = same-bare x read q ∙ at.same }) p
+        go false q rest = rest
+
     next-row : (i : ℕ) (x : Reading) → slice_get (map (reading_after t facts table) (filter is_read (events_of t))) i ≡ Some x → RowIsPossible x
     next-row i x p = go (of-map (reading_after t facts table) (filter is_read (events_of t)) i x p)
       where
@@ -302,11 +351,13 @@ module _ (no_two : NoTwoReadOneSource) (reads : ReadsAddUp) (t : Litmus) (c : Ca
   possible zero = record {
     sources = λ read r at p. any-source read r at p;
     values = λ e. refl;
+    least = λ read r at p. omega arith;
     rows = λ i x p. let z : ⊥ = cc in absurd z;
   }
   possible (suc rounds) = record {
     sources = λ read r at p. next-sources (readings_after t facts rounds) (possible rounds) (filter is_read (events_of t)) read r at p;
     values = λ e. next-values (readings_after t facts rounds) (possible rounds) (filter is_read (events_of t)) (λ x i. i) e;
+    least = λ read r at p. next-least (readings_after t facts rounds) (possible rounds) (filter is_read (events_of t)) read r at p;
     rows = λ i x p. next-row (readings_after t facts rounds) (possible rounds) i x p;
   }
 
@@ -318,4 +369,5 @@ module _ (no_two : NoTwoReadOneSource) (reads : ReadsAddUp) (t : Litmus) (c : Ca
         source = k.sources read r at p;
         value =
             subst (IsPossible (values_read (readings_after t facts rounds) read)) (returns t c d read r at) (k.values read);
+        least = k.least read r at p;
       }

@@ -1,6 +1,6 @@
 -- Values that are possible, put together: what is among some stays among what is made of them.
 use Rattle.possible_reads.proofs.Vocabulary.{◌≡◌, ◌==◌, ℕ, zero, suc, Bool, true, false, if◌then◌else◌, List, [], ◌∷◌, Some, None, refl}
-use Rattle.possible_reads.proofs.Vocabulary.{sym, ap, ◌∙◌, ◌⊎◌, inl, inr, subst, map, filter, list_any, length, nat_lt, slice_get, sum_of}
+use Rattle.possible_reads.proofs.Vocabulary.{sym, ap, ◌∙◌, ◌⊎◌, inl, inr, subst, map, filter, list_any, length, nat_lt, slice_get}
 use Rattle.possible_reads.proofs.Vocabulary.{Entry, or-either, same-number, number-same, is-false, not}
 use Rattle.refutation_laws.proofs.Tests.{or-first, or-second}
 use Rattle.tso_terms.specs.Thread.{combined, difference_of}
@@ -42,7 +42,7 @@ among-filter test (m ∷ ns) n h q = go (test m) refl (or-either (m == n) _ h) (
         let z : ⊥ = cc in absurd z
     go false e (inr k) rest = rest k
 
-among-at : (ns : List ℕ) (n : ℕ) → is_among ns n ≡ true → (i : ℕ) × (slice_get ns i ≡ Some n)
+pub among-at : (ns : List ℕ) (n : ℕ) → is_among ns n ≡ true → (i : ℕ) × (slice_get ns i ≡ Some n)
 among-at [] n h = let z : ⊥ = cc in absurd z
 among-at (m ∷ ns) n h = elim (or-either (m == n) _ h) [
   | inl e ↦ (0, ap Some (same-number m n e))

@@ -4,6 +4,7 @@ pub use Rattle.refutation_laws.proofs.Vocabulary.{subst, ◌≢◌, ℕ, ◌==�
 pub use Rattle.refutation_laws.proofs.Vocabulary.{suc, ◌+◌, slice_index, slice_index_or, arith, slice_get, append-nil, append_assoc, map}
 pub use Rattle.refutation_laws.proofs.Vocabulary.{filter, slice_set, list_any, list_all, map-append}
 pub use Rattle.std.specs.Prelude.{nat_lt}
+pub use Rattle.std.proofs.lemmas.Bool.Decides.{nat_tests}
 pub use Rattle.std.proofs.lemmas.List.Elements.{filter-append}
 pub use Rattle.refutation_laws.proofs.Vocabulary.{Entry, LR, LW, R, W, Reg, Instr, Operand, Number, Held, Update, Action, Kind, Store, Load}
 pub use Rattle.refutation_laws.proofs.Vocabulary.{Move, Fence, Lock, Litmus, action_of, index_of, entry, value_in, updated, entries_by}

@@ -1,5 +1,6 @@
 -- What it is for a candidate to meet facts, and that what they leave possible is so in each allowed candidate that meets them.
-use Rattle.std.specs.Prelude.{ℕ, ◌≡◌, ◌==◌, ◌&&◌, ◌||◌, Bool, true, false, not, List, [], length, ◌∷◌, Option, Some, slice_get, slice_index, slice_index_or}
+use Rattle.std.specs.Prelude.{ℕ, ◌≡◌, ◌≤◌, ◌==◌, ◌&&◌, ◌||◌, Bool, true, false, not, List, [], length, ◌∷◌, Option, Some, slice_get}
+use Rattle.std.specs.Prelude.{slice_index, slice_index_or}
 use Rattle.tso_terms.specs.Litmus.{Litmus}
 use Rattle.tso_terms.specs.Thread.{value_in, registers_with}
 use Rattle.tso_terms.specs.Condition.{Claim, TruthClaim, RegClaim, LocClaim, NotClaim, AndClaim, OrClaim, truth_of, NamesExist}
@@ -14,7 +15,7 @@ use Rattle.refutation_laws.specs.Known.{bare}
 use Rattle.refutation_laws.specs.Agreement.{Stands, IsSameSource}
 use Rattle.possible_reads.specs.Expressions.{register_left}
 use Rattle.possible_reads.specs.Facts.{Fact, From, Before, Last, Returns, Holds, given_by, cases_of}
-use Rattle.possible_reads.specs.Possible.{Values, Reading, can_be, values_of, values_read, sources_read, values_written, readings_after}
+use Rattle.possible_reads.specs.Possible.{Values, Reading, can_be, values_of, values_read, least_read, sources_read, values_written, readings_after}
 use Rattle.possible_reads.specs.Possible.{last_writes, comes_before, words_left}
 
 -- ---- the end of a candidate, one register and one word at a time
@@ -80,6 +81,7 @@ pub record IsOneOf (events : List Entry) (x : Entry) : Type 0 where
 pub record ReadIsPossible (t : Litmus) (c : Candidate) (table : List Reading) (read r : Entry) : Type 0 where
   pub source : HasSourceAmong c r (sources_read t table read)
   pub value : IsPossible (values_read table read) r.value
+  pub least : least_read table read ≤ r.value
 
 -- a location's last write in coherence, which is one of those that can be it
 pub record HasLastWrite (t : Litmus) (c : Candidate) (facts : List Fact) (table : List Reading) (loc : ℕ) : Type 0 where

@@ -1,7 +1,7 @@
 -- What each read can read from and return, as far as facts tell: sources and values that they leave possible. They are told in rounds;
 -- each round goes by what the round before left, so a reader follows it as one does at the board, one read after the other.
-use Rattle.std.specs.Prelude.{ℕ, zero, suc, ◌==◌, ◌&&◌, ◌||◌, nat_lt, Bool, true, false, not, if◌then◌else◌, List, [], ◌∷◌, map, filter, length}
-use Rattle.std.specs.Prelude.{Option, Some, None, slice_index}
+use Rattle.std.specs.Prelude.{ℕ, zero, suc, ◌+◌, ◌-◌, ◌^◌, min, ◌==◌, ◌&&◌, ◌||◌, nat_lt, Bool, true, false, not, if◌then◌else◌, List, []}
+use Rattle.std.specs.Prelude.{◌∷◌, map, filter, length, Option, Some, None, slice_index}
 use Rattle.std.specs.List.{list_any, list_all}
 use Rattle.tso_terms.specs.Litmus.{Litmus}
 use Rattle.tso_terms.specs.Thread.{entry, sum_of, difference_of, combined}
@@ -82,11 +82,12 @@ values_of reads (Exchanged word eax new) = exchanged_values (values_of reads wor
 
 -- ---- what a round leaves
 
--- a read, what it can read from, and what it can return
+-- a read, what it can read from, what it can return, and the least of that
 pub record Reading : Type 0 where
   pub read : Entry
   pub sources : List (Option Entry)
   pub values : Values
+  pub least : ℕ
 
 abbrev pub values_read : List Reading → Entry → Values
 values_read [] read = None
@@ -95,6 +96,11 @@ values_read (x ∷ xs) read = if same_event x.read read then x.values else value
 abbrev pub sources_read : Litmus → List Reading → Entry → List (Option Entry)
 sources_read t [] read = sources_of t read
 sources_read t (x ∷ xs) read = if same_event x.read read then x.sources else sources_read t xs read
+
+-- 0 where nothing is known
+abbrev pub least_read : List Reading → Entry → ℕ
+least_read [] read = 0
+least_read (x ∷ xs) read = if same_event x.read read then x.least else least_read xs read
 
 abbrev pub same_source : Option Entry → Option Entry → Bool
 same_source None None = true
@@ -114,6 +120,73 @@ abbrev pub values_from : Litmus → List Reading → Entry → Option Entry → 
 values_from t table read None = Some (slice_index t.words read.loc.0 ∷ [])
 values_from t table read (Some write) = values_written t table write
 
+-- ---- locked additions and subtractions of numbers
+
+-- the load part of the locked instruction whose store part this is
+abbrev pub load_part_of : Entry → Entry
+load_part_of write = entry write.core.0 write.place LR write.loc 0
+
+-- the number that is added to what this read returns, modulo 2^32
+abbrev pub addend_in : Entry → Expression → Option ℕ
+addend_in own (Combined Add (Returned read) (Constant number)) = if same_event read own then Some number else None
+addend_in own (Combined Subtract (Returned read) (Constant number)) = if same_event read own then Some (difference_of 0 number) else None
+addend_in own _ = None
+
+abbrev pub addend_or_none : Option ℕ → ℕ
+addend_or_none None = 0
+addend_or_none (Some addend) = addend
+
+-- ---- the least that is written: whoever adds 2 leaves at least 2, where nothing wraps
+
+-- the number that a write writes, or that a locked addition adds; none: it does something else
+abbrev pub amount_in : Entry → Expression → Option ℕ
+amount_in write (Constant number) = Some number
+amount_in write sum = if same_kind write.kind LW then addend_in (load_part_of write) sum else None
+
+abbrev pub amount_of : Litmus → Entry → Option ℕ
+amount_of t write = amount_in write (expression_of t write)
+
+-- the number is there, and less than 2^32 together with this sum
+abbrev pub can_add : ℕ → Option ℕ → Bool
+can_add sum None = false
+can_add sum (Some number) = nat_lt (sum + number) (2 ^ 32)
+
+-- so are those of all these writes together
+abbrev pub can_add_all : Litmus → ℕ → List Entry → Bool
+can_add_all t sum [] = true
+can_add_all t sum (w ∷ ws) = can_add sum (amount_of t w) && can_add_all t (sum + addend_or_none (amount_of t w)) ws
+
+-- All that writes to this location does is to set numbers and to add them, and all of these and its first word are less than 2^32
+-- together.
+abbrev pub never_wraps : Litmus → ℕ → Bool
+never_wraps t loc = can_add_all t (slice_index t.words loc) (filter (writes_to loc) (events_of t))
+
+-- A sum that a word can't hold comes only of facts that no candidate meets; it is told as the greatest word.
+abbrev pub least_sum : ℕ → ℕ → ℕ
+least_sum least number = min (least + number) (2 ^ 32 - 1)
+
+abbrev pub least_by : List Reading → Entry → Expression → ℕ
+least_by table write (Constant number) = number
+least_by table write sum = least_sum (least_read table (load_part_of write)) (addend_or_none (addend_in (load_part_of write) sum))
+
+-- the least that a write can write; 0 where nothing is known
+abbrev pub least_written : Litmus → List Reading → Entry → ℕ
+least_written t table write = if never_wraps t write.loc.0 then least_by table write (expression_of t write) else 0
+
+-- the least that a read can return from this
+abbrev pub least_from : Litmus → List Reading → Entry → Option Entry → ℕ
+least_from t table read None = slice_index t.words read.loc.0
+least_from t table read (Some write) = least_written t table write
+
+abbrev pub smallest_with : ℕ → List ℕ → ℕ
+smallest_with least [] = least
+smallest_with least (n ∷ ns) = smallest_with (min n least) ns
+
+-- 0 where there is none
+abbrev pub smallest : List ℕ → ℕ
+smallest [] = 0
+smallest (n ∷ ns) = smallest_with n ns
+
 -- ---- the last write to a location
 
 abbrev pub fits_word : ℕ → ℕ → Fact → Bool
@@ -123,6 +196,16 @@ fits_word loc word _ = true
 -- as far as facts tell, the location can hold this at the end
 abbrev pub may_be_left : List Fact → ℕ → ℕ → Bool
 may_be_left facts loc word = list_all (fits_word loc word) facts
+
+-- a fact says that less is left there
+abbrev pub leaves_less : ℕ → ℕ → Fact → Bool
+leaves_less loc least (Holds (LocClaim l value) true) = (l == loc) && nat_lt value least
+leaves_less loc least _ = false
+
+-- as far as facts tell, one of these values can be left there; where they are any, no less than the least
+abbrev pub can_be_left : List Fact → ℕ → Values → ℕ → Bool
+can_be_left facts loc None least = not (list_any (leaves_less loc least) facts)
+can_be_left facts loc (Some values) least = list_any (may_be_left facts loc) values
 
 abbrev pub fits_last : ℕ → Entry → Fact → Bool
 fits_last loc w (Last v true) = if v.loc.0 == loc then same_event v w else true
@@ -140,7 +223,7 @@ is_put_before facts w v = list_any (is_told_before w v) facts || (is_before w v 
 abbrev pub can_be_last : Litmus → List Fact → List Reading → ℕ → Entry → Bool
 can_be_last t facts table loc w =
     writes_to loc w && list_all (fits_last loc w) facts && not (list_any (is_put_before facts w) (events_of t))
-    && can_be (values_written t table w) (may_be_left facts loc)
+    && can_be_left facts loc (values_written t table w) (least_written t table w)
 
 -- the writes that can be the last one to a location
 abbrev pub last_writes : Litmus → List Fact → List Reading → ℕ → List Entry
@@ -156,20 +239,6 @@ comes_before t facts table w v =
     is_put_before facts w v || (writes_to w.loc.0 v && not (same_event w v) && is_last t facts table v)
 
 -- ---- counters: all writes to the location are locked additions and subtractions of numbers
-
--- the load part of the locked instruction whose store part this is
-abbrev pub load_part_of : Entry → Entry
-load_part_of write = entry write.core.0 write.place LR write.loc 0
-
--- the number that is added to what this read returns, modulo 2^32
-abbrev pub addend_in : Entry → Expression → Option ℕ
-addend_in own (Combined Add (Returned read) (Constant number)) = if same_event read own then Some number else None
-addend_in own (Combined Subtract (Returned read) (Constant number)) = if same_event read own then Some (difference_of 0 number) else None
-addend_in own _ = None
-
-abbrev pub addend_or_none : Option ℕ → ℕ
-addend_or_none None = 0
-addend_or_none (Some addend) = addend
 
 abbrev pub addend_of : Litmus → Entry → ℕ
 addend_of t write = addend_or_none (addend_in (load_part_of write) (expression_of t write))
@@ -236,6 +305,11 @@ fits_source read source (From r write truth) =
     if same_event r read then (if truth then same_source write source else not (same_source write source)) else true
 fits_source read source _ = true
 
+-- a fact says that the read returns less
+abbrev pub returns_less : Entry → ℕ → Fact → Bool
+returns_less read least (Returns r value true) = same_event r read && nat_lt value least
+returns_less read least _ = false
+
 -- By program order: a read doesn't read from a later write of its own core, nor from what an earlier one of its own core has
 -- overwritten.
 abbrev pub is_in_order : Litmus → Entry → Option Entry → Bool
@@ -258,6 +332,7 @@ can_read_from t facts table read source =
     && is_in_order t read source
     && not (is_taken table read source)
     && can_be (values_from t table read source) (may_return facts read)
+    && not (list_any (returns_less read (least_from t table read source)) facts)
 
 -- the sources that the round before left, and that can still be
 abbrev pub sources_after : Litmus → List Fact → List Reading → Entry → List (Option Entry)
@@ -272,12 +347,22 @@ abbrev pub kept : (ℕ → Bool) → Values → Values
 kept test None = None
 kept test (Some values) = Some (filter test values)
 
-abbrev pub reading_after : Litmus → List Fact → List Reading → Entry → Reading
-reading_after t facts table read = record {
+-- the least of its values, else of what it can return from its sources
+abbrev pub least_after : Litmus → List Reading → Entry → List (Option Entry) → Values → ℕ
+least_after t table read sources (Some values) = smallest values
+least_after t table read sources None = smallest (map (least_from t table read) sources)
+
+-- what these sources leave a read
+abbrev pub reading_from : Litmus → List Fact → List Reading → Entry → List (Option Entry) → Reading
+reading_from t facts table read sources = record {
   read = read;
-  sources = sources_after t facts table read;
-  values = kept (may_return facts read) (values_after t facts table read (sources_after t facts table read));
+  sources = sources;
+  values = kept (may_return facts read) (values_after t facts table read sources);
+  least = least_after t table read sources (kept (may_return facts read) (values_after t facts table read sources));
 }
+
+abbrev pub reading_after : Litmus → List Fact → List Reading → Entry → Reading
+reading_after t facts table read = reading_from t facts table read (sources_after t facts table read)
 
 -- the readings after so many rounds
 abbrev pub readings_after : Litmus → List Fact → ℕ → List Reading

@@ -1,14 +1,15 @@
 -- Worked tests: a lock that two cores take by an exchange or by a compare and exchange, a counter to which three cores add by locked
--- additions, one from which two subtract, store buffering, a load before its own core's store, and a sum that is stored.
+-- additions, one from which two subtract, store buffering, a load before its own core's store, a sum that is stored, and a location to
+-- which one core stores 1 and two add 2.
 use Rattle.std.specs.Prelude.{ℕ, true, List, [], ◌∷◌, None, codes}
 use Rattle.tso_terms.specs.Litmus.{Litmus}
 use Rattle.tso_terms.specs.Thread.{entry}
 use Rattle.tso_terms.specs.Condition.{Claim, RegClaim, LocClaim, AndClaim}
 use Rattle.tso_terms.specs.Examples.{loc_x, loc_y, zeros}
-use Rattle.basic_laws.specs.Types.{Eax, Ebx, StoreImm, StoreReg, Load, Xadd, Add, Subtract, Number, Instr, Entry, R, W, LR, LW}
+use Rattle.basic_laws.specs.Types.{Eax, Ebx, StoreImm, StoreReg, Load, Xadd, Add, Subtract, Number, Instr, Entry, R, LR, LW}
 use Rattle.tso_terms.specs.declared.instruction.Instr.TheVariants.{CompareExchange, LockedCombine, Combine}
 use Rattle.relational_model.specs.WorkedCandidates.{one_in_eax}
-use Rattle.possible_reads.specs.Facts.{Fact, From, Last, given_by}
+use Rattle.possible_reads.specs.Facts.{Fact, From, Last, Returns, given_by}
 
 -- both cores read 0
 abbrev pub both_zero : Claim
@@ -94,3 +95,27 @@ load_then_store = record {
   programs = (Load Eax loc_x ∷ (StoreImm loc_x 1 ∷ [])) ∷ [];
   condition = None;
 }
+
+-- a core stores 1 to x, adds 2 there, and loads it; another core adds 2; x begins as `word`
+abbrev pub both_add : ℕ → Litmus
+both_add word = record {
+  name = codes "least";
+  locations = codes "x" ∷ [];
+  words = word ∷ [];
+  registers = zeros ∷ (zeros ∷ []);
+  programs =
+      (StoreImm loc_x 1 ∷ (LockedCombine loc_x Add (Number 2) ∷ (Load Eax loc_x ∷ [])))
+      ∷ ((LockedCombine loc_x Add (Number 2) ∷ []) ∷ []);
+  condition = None;
+}
+
+-- its load, and that this returns 1
+abbrev pub load_after : Entry
+load_after = entry 0 2 R loc_x 0
+
+abbrev pub one_loaded : List Fact
+one_loaded = Returns load_after 1 true ∷ []
+
+-- 1 is left at the end
+abbrev pub one_left : List Fact
+one_left = given_by (both_add 0) (LocClaim 0 1) true

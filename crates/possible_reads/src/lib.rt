@@ -8,9 +8,10 @@ ghost use Rattle.possible_reads.specs.Laws.{ReadingsArePossible, WrittenValuesAr
 ghost use Rattle.possible_reads.specs.Laws.{LastWordsArePossible, LastRegistersArePossible, TruthsAreThoseLeft, ClaimsGiveFacts};
 ghost use Rattle.possible_reads.specs.Laws.{SomeCaseIsMet};
 ghost use Rattle.possible_reads.specs.Facts.{given_by};
-ghost use Rattle.possible_reads.specs.Possible.{readings, values_read, sources_read, words_left};
+ghost use Rattle.possible_reads.specs.Possible.{readings, values_read, least_read, sources_read, words_left};
 ghost use Rattle.possible_reads.specs.Worked.{both_zero, load_part, store_part, taken, counter_of_three, adds_last, one_lost, load_of_y};
-ghost use Rattle.possible_reads.specs.Worked.{load_of_x, load_then_store, compared_lock, references, sum_stored};
+ghost use Rattle.possible_reads.specs.Worked.{load_of_x, load_then_store, compared_lock, references, sum_stored, both_add, load_after};
+ghost use Rattle.possible_reads.specs.Worked.{one_loaded, one_left};
 ghost use Rattle.std.specs.Prelude.{◌≡◌, true, [], ◌∷◌, Some, None};
 ghost use Rattle.tso_terms.specs.Thread.{entry};
 ghost use Rattle.tso_terms.specs.Examples.{sb, loc_x};
@@ -19,8 +20,8 @@ ghost use Rattle.locked_laws.specs.WorkedLocks.{lock};
 
 use locked_laws::{no_two_read_one_source, reads_add_up, words_add_up};
 
-/// In each allowed candidate that meets the facts, each read has its source and its value among those that are possible, after any
-/// number of rounds.
+/// In each allowed candidate that meets the facts, each read has its source and its value among those that are possible, and returns no
+/// less than the least, after any number of rounds.
 pub fn readings_are_possible()
     ensures { ReadingsArePossible }
 {
@@ -88,7 +89,9 @@ pub fn some_case_is_met()
 /// Where one core has taken the lock, the other one reads what that core wrote; both take it in no candidate, since the read of each is
 /// left no source. Of three additions of 1 to a counter each finds 0, 1 or 2, the last one 2, and 3 is left, never 2. In store buffering
 /// the loads that both read 0 read the initial words. A load doesn't read what its own core stores later. Of two compare and exchanges
-/// one alone finds 0. Of two references that are dropped the last word is 0. A sum is modulo 2^32.
+/// one alone finds 0. Of two references that are dropped the last word is 0. A sum is modulo 2^32. A load that comes after an addition
+/// of 2, and to whose location another core adds 2, returns any value, but at least 2; so it doesn't return 1, which isn't left at the
+/// end either. Where the sum of all could wrap, nothing is known of the least.
 pub fn worked_readings()
     ensures turn { sources_read lock (readings lock taken) (load_part 1) ≡ Some (store_part 0) ∷ [] }
     ensures exclusion { sources_read lock (readings lock (given_by lock both_zero true)) (load_part 0) ≡ [] }
@@ -103,4 +106,9 @@ pub fn worked_readings()
     ensures dropped { (values_read (readings references []) (load_part 0) ≡ Some (2 ∷ (1 ∷ [])))
         × (words_left references [] (readings references []) 0 ≡ Some (0 ∷ [])) }
     ensures sum { words_left sum_stored [] (readings sum_stored []) 1 ≡ Some (0 ∷ []) }
+    ensures least { (values_read (readings (both_add 0) []) load_after ≡ None) × (least_read (readings (both_add 0) []) load_after ≡ 2) }
+    ensures never_less { sources_read (both_add 0) (readings (both_add 0) one_loaded) load_after ≡ [] }
+    ensures never_left { words_left (both_add 0) one_left (readings (both_add 0) one_left) 0 ≡ Some [] }
+    ensures wraps { (least_read (readings (both_add 4294967290) []) load_after ≡ 3)
+        × (least_read (readings (both_add 4294967291) []) load_after ≡ 0) }
 {}

@@ -3,8 +3,8 @@
 use Rattle.std.specs.Prelude.{ℕ, zero, suc, ◌+◌, ◌<◌, ◌≡◌, ◌⊎◌, true, List, [], ◌∷◌, ◌++◌, map, length, Some, None}
 use Rattle.printed_laws.specs.Vocabulary.{asked_claim, Claim, Litmus, Model}
 use Rattle.possible_reads.specs.Facts.{Fact, given_by}
-use Rattle.short_refutations.specs.Laws.{IsRefuted}
-use Rattle.short_refutations.specs.Refutations.{Node, Lemma, answers, is_node, known_from, refutes}
+use Rattle.lemma_refutations.specs.Laws.{IsRefuted}
+use Rattle.lemma_refutations.specs.Refutations.{Node, Lemma, answers, is_node, known_from, refutes}
 use Rattle.search_report.specs.Shown.{Closing, ShownFact, closing_at, shown_at, shown_facts}
 use Rattle.search_report.specs.ShownText.{closing_text}
 use Rattle.search_report.specs.Lines.{Line, Never, Case, So, Leaf, deeper, given_lines, question_word}

@@ -3,7 +3,7 @@ mod ExactSearches
 mod LinesAgain
 mod NoMore
 mod Refuting
-mod RefutingShortly
+mod RefutingByLemmas
 mod SomeExecution
 mod TracedRuns
 mod Waiting

@@ -1,10 +1,10 @@
 -- What the code finds that a write adds is what its expression adds.
 use Rattle.reading_tables.proofs.Vocabulary.{◌≡◌, ◌<◌, ◌≤◌, ◌+◌, ℕ, zero, suc, Bool, true, false, if◌then◌else◌, List, [], ◌∷◌, ◌++◌}
-use Rattle.reading_tables.proofs.Vocabulary.{Option, None, length, slice_index_or, get_or, arith, refl, ap, ◌∙◌, Entry}
+use Rattle.reading_tables.proofs.Vocabulary.{Option, Some, None, length, slice_index_or, get_or, arith, refl, ap, ◌∙◌, Entry}
 use Rattle.basic_laws.specs.Types.{Operator, Add, And, Or, Subtract, Xor}
 use Rattle.refutation_laws.specs.Known.{same_event}
 use Rattle.possible_reads.specs.Expressions.{Expression, Constant, Returned, Combined, Negated, Exchanged}
-use Rattle.possible_reads.specs.Possible.{addend_in}
+use Rattle.possible_reads.specs.Possible.{Reading, addend_in, addend_or_none, load_part_of, amount_in, least_read, least_sum, least_by}
 use Rattle.possible_reads.specs.Facts.{value_facts}
 use Rattle.reading_tables.specs.declared.expressions.Held.{Held}
 use Rattle.reading_tables.specs.declared.expressions.Making.{Making}
@@ -12,6 +12,9 @@ use Rattle.reading_tables.specs.declared.expressions.Held.TheVariants.{Number, R
 use Rattle.reading_tables.specs.declared.expressions.Making.TheVariants as making
 use Rattle.reading_tables.specs.inner.Told.{unmade, held_of, making_of, made_after, all_made}
 use Rattle.reading_tables.specs.inner.Addends.{addend_by, made_addend}
+use Rattle.std.specs.Option.{unwrap_or}
+use Rattle.tso_terms.specs.ProgramOrder.{same_kind}
+use Rattle.basic_laws.specs.Types.{LW}
 use Rattle.reading_tables.proofs.Makings.{length-more, at-front, at-end, count}
 
 -- neither a number nor what a read returned
@@ -42,6 +45,9 @@ computed-more (x ∷ es) e h k = (h.0, computed-more es e h.1 k)
 pub all-computed : (made : List Expression) (ms : List Making) → AreComputed made → AreComputed (made_after made ms)
 all-computed made [] h = h
 all-computed made (m ∷ ms) h = all-computed (made ++ (making_of made m ∷ [])) ms (computed-more made (making_of made m) h (making-computed made m))
+
+made-computed : (makings : List Making) (k : ℕ) → IsComputed (held_of (all_made makings) (Made k))
+made-computed makings k = computed-at (all_made makings) k (all-computed [] makings tt)
 
 -- ---- one making
 
@@ -161,4 +167,40 @@ computed-silent (Returned read) value truth h = absurd h
 
 pub no_facts : (makings : List Making) (k value : ℕ) (truth : Bool) → value_facts (held_of (all_made makings) (Made k)) value truth ≡ []
 no_facts makings k value truth =
-    computed-silent (held_of (all_made makings) (Made k)) value truth (computed-at (all_made makings) k (all-computed [] makings tt))
+    computed-silent (held_of (all_made makings) (Made k)) value truth (made-computed makings k)
+
+-- ---- what isn't a number by itself can be an addition
+
+pub none-is-zero : (o : Option ℕ) → unwrap_or o 0 ≡ addend_or_none o
+none-is-zero None = refl
+none-is-zero (Some n) = refl
+
+added-amount : (write : Entry) (e : Expression) → IsComputed e
+    → amount_in write e ≡ (if same_kind write.kind LW then addend_in (load_part_of write) e else None)
+added-amount write (Combined operator left right) h = refl
+added-amount write (Negated inner) h = refl
+added-amount write (Exchanged word eax new) h = refl
+added-amount write (Constant n) h = absurd h
+added-amount write (Returned read) h = absurd h
+
+added-least : (table : List Reading) (write : Entry) (e : Expression) → IsComputed e
+    → least_by table write e ≡ least_sum (least_read table (load_part_of write)) (addend_or_none (addend_in (load_part_of write) e))
+added-least table write (Combined operator left right) h = refl
+added-least table write (Negated inner) h = refl
+added-least table write (Exchanged word eax new) h = refl
+added-least table write (Constant n) h = absurd h
+added-least table write (Returned read) h = absurd h
+
+pub held-amount : (write : Entry) (makings : List Making) (held : Held) → ((n : ℕ) → held ≡ Number n → ⊥)
+    → amount_in write (held_of (all_made makings) held)
+    ≡ (if same_kind write.kind LW then addend_in (load_part_of write) (held_of (all_made makings) held) else None)
+held-amount write makings (Number n) other = absurd (other n refl)
+held-amount write makings (Read r) other = refl
+held-amount write makings (Made k) other = added-amount write (held_of (all_made makings) (Made k)) (made-computed makings k)
+
+pub held-least : (table : List Reading) (write : Entry) (makings : List Making) (held : Held) → ((n : ℕ) → held ≡ Number n → ⊥)
+    → least_by table write (held_of (all_made makings) held)
+    ≡ least_sum (least_read table (load_part_of write)) (addend_or_none (addend_in (load_part_of write) (held_of (all_made makings) held)))
+held-least table write makings (Number n) other = absurd (other n refl)
+held-least table write makings (Read r) other = refl
+held-least table write makings (Made k) other = added-least table write (held_of (all_made makings) (Made k)) (made-computed makings k)

@@ -1,7 +1,9 @@
 pub mod Vocabulary
 pub mod Makings
 pub mod Addends
+pub mod LeastWritten
 pub mod MadeValues
 pub mod Walking
 pub mod Looking
+pub mod PutBefore
 pub mod Settled

@@ -1,4 +1,6 @@
 -- Words of contracts inside the project.
 pub mod Addends
+pub mod Bounds
+pub mod Orders
 pub mod Tables
 pub mod Told

@@ -6,12 +6,10 @@ ghost use Rattle.refutation_laws.specs.Known.{same_event as is_same_event};
 ghost use Rattle.possible_reads.specs.Expressions as expressions;
 ghost use Rattle.possible_reads.specs.Possible as spec;
 ghost use Rattle.reading_tables.specs.Told.{facts_of};
-ghost use Rattle.reading_tables.specs.inner.Told.{held_of, all_made, written_of, known_of};
+ghost use Rattle.reading_tables.specs.inner.Told.{known_of};
 ghost use Rattle.reading_tables.specs.inner.Tables.{IsTold, readings_of};
-ghost use Rattle.reading_tables.specs.inner.Addends.{addend_by, made_addend};
-ghost use Rattle.std.specs.Prelude.{map, List};
 
-use crate::expressions::{Held, Making, Written};
+use crate::amounts::{addend_in, load_part_of, value_among};
 use crate::orders::{is_put_before, last_writes};
 use crate::tables::Told;
 use crate::values::{combined_values, either_of, one};
@@ -19,71 +17,6 @@ use refutations::events::{same_event, writes_to};
 use refutations::values::first_word;
 use std::alloc::Global;
 use tso_terms::{Entry, Kind, Loc, NoMemory, Operator};
-
-/// What this write writes; 0 where there is no such write.
-fn value_among(written: &[Written], write: &Entry) -> Held
-    ensures { (made : List expressions.Expression) → held_of made result ≡ expressions.expression_among (map (written_of made) written.now) write.now }
-{
-    for x in written {
-        if same_event(&x.write, write) {
-            return x.value;
-        }
-    }
-    Held::Number(0)
-}
-
-/// The load part of the locked instruction whose store part this is.
-fn load_part_of(write: &Entry) -> Entry
-    ensures { result ≡ spec.load_part_of write.now }
-{
-    Entry {
-        core: write.core,
-        place: write.place,
-        kind: Kind::LR,
-        loc: write.loc,
-        value: 0,
-    }
-}
-
-/// What an operator with this number adds, modulo 2^32, if it adds.
-fn added_by(operator: Operator, number: u32) -> Option<u32>
-    ensures { result ≡ addend_by operator number }
-{
-    match operator {
-        Operator::Add => Some(number),
-        Operator::Subtract => Some(0_u32.wrapping_sub(number)),
-        Operator::And | Operator::Or | Operator::Xor => None,
-    }
-}
-
-/// The number that this making adds to what the read returns, if it is one.
-fn addend_made(own: &Entry, making: Making) -> Option<u32>
-    ensures { result ≡ made_addend own.now making }
-{
-    match making {
-        Making::Combined(operator, Held::Returned(read), Held::Number(number)) => {
-            if same_event(&read, own) {
-                added_by(operator, number)
-            } else {
-                None
-            }
-        }
-        _ => None,
-    }
-}
-
-/// The number that is added to what the read returns, if it is one.
-fn addend_in(makings: &[Making], own: &Entry, held: Held) -> Option<u32>
-    ensures { result ≡ spec.addend_in own.now (held_of (all_made makings.now) held) }
-{
-    let Held::Made(number) = held else {
-        return None;
-    };
-    match makings.get(number) {
-        Some(making) => addend_made(own, *making),
-        None => None,
-    }
-}
 
 /// The number that a write adds to what its load part reads, if it is one.
 fn addend_written(told: Told<'_>, write: &Entry) -> Option<u32>

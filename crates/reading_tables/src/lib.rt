@@ -1,10 +1,12 @@
 //! What each read of a test can read from and return, where some facts are given: computes exactly what `possible_reads` defines.
 #![tactic(auto)]
 
+pub mod amounts;
 pub mod counting;
 pub mod ends;
 pub mod expressions;
 pub mod facts;
+pub mod leasts;
 pub mod orders;
 pub mod rounds;
 pub mod sources;

@@ -5,8 +5,11 @@ ghost use Rattle.possible_reads.specs.Possible as spec;
 ghost use Rattle.reading_tables.specs.Told.{facts_of};
 ghost use Rattle.reading_tables.specs.inner.Told.{known_of};
 ghost use Rattle.reading_tables.specs.inner.Tables.{IsTold, readings_of};
+ghost use Rattle.reading_tables.specs.inner.Orders.{is_followed_by, puts_before_some};
+ghost use Rattle.refutation_laws.specs.Known.{same_event as is_same_event};
 
 use crate::facts::{Fact, last_fits, may_be_left, told_before};
+use crate::leasts::leaves_less;
 use crate::tables::{Told, values_written};
 use refutations::events::{is_before, same_event, writes_to};
 use std::alloc::Global;
@@ -23,32 +26,75 @@ fn some_left(values: &[u32], facts: &[Fact<'_>], loc: u8) -> bool
     false
 }
 
-/// Whether one of these values can be left in the location, as far as facts tell.
-pub fn can_be_left(values: &Option<Vec<u32>>, facts: &[Fact<'_>], loc: u8) -> bool
-    ensures { result ≡ spec.can_be (known_of values.now) (spec.may_be_left (facts_of facts.now) loc) }
+/// Whether facts leave it possible that the location is left with what the write can write; where that is any value, with its least or more.
+fn can_be_left(told: Told<'_>, loc: u8, w: &Entry) -> bool
+    requires { IsTold told }
+    ensures { result ≡ spec.can_be_left (facts_of told.entry.facts.now) loc
+        (spec.values_written told.entry.test.now (readings_of told.entry.readings.now) w.now)
+        (spec.least_written told.entry.test.now (readings_of told.entry.readings.now) w.now) }
 {
-    let Some(values) = values else {
-        return true;
-    };
-    some_left(values, facts, loc)
+    match values_written(told, w) {
+        Some(values) => some_left(values, told.facts, loc),
+        None => !leaves_less(told, loc, w),
+    }
 }
 
-/// Whether a fact, or their program, puts w before v.
+/// Whether their program puts w before v, a write to its location.
+fn is_followed(w: &Entry, v: &Entry) -> bool
+    ensures { result ≡ is_followed_by w.now v.now }
+{
+    is_before(w, v) && writes_to(w.loc.0, v)
+}
+
+/// Whether a fact, or their program, puts w before v. Their program is asked first, which takes less.
+#[tactic(auto, using(crate::proofs::PutBefore::other_way))]
 pub fn is_put_before(facts: &[Fact<'_>], w: &Entry, v: &Entry) -> bool
     ensures { result ≡ spec.is_put_before (facts_of facts.now) w.now v.now }
 {
-    told_before(w, v, facts) || is_before(w, v) && writes_to(w.loc.0, v)
+    is_followed(w, v) || told_before(w, v, facts)
 }
 
-fn is_put_before_some(facts: &[Fact<'_>], events: &[Entry], w: &Entry) -> bool
-    ensures { result ≡ list_any (spec.is_put_before (facts_of facts.now) w.now) events.now }
+fn is_followed_by_some(events: &[Entry], w: &Entry) -> bool
+    ensures { result ≡ list_any (is_followed_by w.now) events.now }
 {
     for v in events {
-        if is_put_before(facts, w, v) {
+        if is_followed(w, v) {
             return true;
         }
     }
     false
+}
+
+fn is_one_of(events: &[Entry], v: &Entry) -> bool
+    ensures { result ≡ list_any (is_same_event v.now) events.now }
+{
+    for e in events {
+        if same_event(v, e) {
+            return true;
+        }
+    }
+    false
+}
+
+/// Whether a fact puts w before one of these.
+fn is_told_before_some(facts: &[Fact<'_>], events: &[Entry], w: &Entry) -> bool
+    ensures { result ≡ list_any (puts_before_some events.now w.now) (facts_of facts.now) }
+{
+    for fact in facts {
+        if let Fact::Before(first, second) = fact {
+            if same_event(first, w) && is_one_of(events, second) {
+                return true;
+            }
+        }
+    }
+    false
+}
+
+#[tactic(auto, using(crate::proofs::PutBefore::put_before_some))]
+fn is_put_before_some(facts: &[Fact<'_>], events: &[Entry], w: &Entry) -> bool
+    ensures { result ≡ list_any (spec.is_put_before (facts_of facts.now) w.now) events.now }
+{
+    is_followed_by_some(events, w) || is_told_before_some(facts, events, w)
 }
 
 /// Whether w can be the last write to the location.
@@ -59,7 +105,7 @@ pub fn can_be_last(told: Told<'_>, loc: u8, w: &Entry) -> bool
     writes_to(loc, w)
         && last_fits(loc, w, told.facts)
         && !is_put_before_some(told.facts, told.events, w)
-        && can_be_left(values_written(told, w), told.facts, loc)
+        && can_be_left(told, loc, w)
 }
 
 /// The writes that can be the last one to the location.

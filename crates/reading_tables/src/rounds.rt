@@ -11,6 +11,7 @@ ghost use Rattle.reading_tables.specs.inner.Tables.{IsProblem, IsTold, AreMadeVa
 use crate::counting::counted_values;
 use crate::expressions::{Held, Making, Written};
 use crate::facts::{Fact, may_return, told_value};
+use crate::leasts::{all_least, least_after};
 use crate::sources::sources_after;
 use crate::tables::{Problem, Reading, Table, Told, reading_for, told_by, values_written};
 use crate::values::{
@@ -121,7 +122,7 @@ fn values_after(
     both_of(alloc, &from, &others)
 }
 
-/// What a read can still read from and return.
+/// What a read can still read from and return, and the least of that.
 fn reading_after(alloc: Global, told: Told<'_>, read: &Entry) -> Result<Reading, NoMemory>
     requires { IsTold told }
     ensures { IfOk result (λ x. reading_of x ≡ spec.reading_after told.entry.test.now (facts_of told.entry.facts.now)
@@ -130,10 +131,12 @@ fn reading_after(alloc: Global, told: Told<'_>, read: &Entry) -> Result<Reading,
     let sources = sources_after(alloc, told, read)?;
     let values = values_after(alloc, told, read, &sources)?;
     let kept = kept_values(alloc, &values, told.facts, read)?;
+    let least = least_after(told, read, &sources, &kept);
     Ok(Reading {
         read: *read,
         sources,
         values: kept,
+        least,
     })
 }
 
@@ -253,15 +256,18 @@ fn write_values(
 
 /// The table of these readings.
 fn table_of(alloc: Global, problem: &Problem<'_>, readings: Vec<Reading>) -> Result<Table, NoMemory>
+    requires { IsProblem problem.now.test.now problem.now }
     ensures readings { IfOk result (λ x. x.readings.items ≡ readings.items) }
     ensures values { IfOk result (λ x. AreTableValues problem.now x) }
 {
     let made = all_made_values(alloc, &readings, &problem.expressions.makings)?;
     let values = write_values(alloc, &readings, &made, &problem.expressions.written)?;
+    let least = all_least(alloc, &readings, &problem.bounds)?;
     Ok(Table {
         readings,
         made,
         values,
+        least,
     })
 }
 
@@ -307,6 +313,9 @@ fn same_reading(a: &Reading, b: &Reading) -> bool
     if a.read != b.read {
         return false;
     }
+    if a.least != b.least {
+        return false;
+    }
     if !equal_sources(&a.sources, &b.sources) {
         return false;
     }
@@ -331,6 +340,7 @@ fn same_readings(xs: &[Reading], ys: &[Reading]) -> bool
 
 /// A table that tells nothing yet.
 fn first_table(alloc: Global, problem: &Problem<'_>) -> Result<Table, NoMemory>
+    requires { IsProblem problem.now.test.now problem.now }
     ensures readings { IfOk result (λ x. readings_of x.readings.items ≡ []) }
     ensures values { IfOk result (λ x. AreTableValues problem.now x) }
 {

@@ -10,6 +10,7 @@ ghost use Rattle.reading_tables.specs.inner.Told.{known_of};
 ghost use Rattle.reading_tables.specs.inner.Tables.{IsTold, reading_of, readings_of};
 
 use crate::facts::{Fact, may_return, same_source, source_fits};
+use crate::leasts::returns_less;
 use crate::tables::{Reading, Told, are_one, reading_for, values_written};
 use refutations::events::{is_before, same_event, writes_to};
 use refutations::values::first_word;
@@ -122,6 +123,7 @@ pub fn can_read_from(told: Told<'_>, read: &Entry, source: &Option<Entry>) -> bo
         && is_in_order(told.test, told.events, read, source)
         && !is_taken(told.readings, read, source)
         && returns_from(told, read, source)
+        && !returns_less(told, read, source)
 }
 
 /// What a read can read from at first: the initial write, and each write to its location.

@@ -6,23 +6,25 @@ ghost use Rattle.refutation_laws.specs.Refutations.{sources_of};
 ghost use Rattle.possible_reads.specs.Possible as spec;
 ghost use Rattle.reading_tables.specs.Told.{facts_of};
 ghost use Rattle.reading_tables.specs.inner.Told.{known_of};
-ghost use Rattle.reading_tables.specs.inner.Tables.{IsProblem, IsTold, AreTableValues, readings_of, sources_or, values_or_any};
+ghost use Rattle.reading_tables.specs.inner.Tables.{IsProblem, IsTold, AreTableValues, readings_of, sources_or, values_or_any, least_or_none};
 
+use crate::amounts::{Bound, make_bounds};
 use crate::expressions::{Expressions, Making, Written, make_expressions};
 use crate::facts::{Fact, same_source};
 use refutations::events::{make_events, same_event, writes_to};
 use std::alloc::Global;
 use tso_terms::{Entry, NoMemory, Test};
 
-/// A test, with what goes by it alone: its events, what its writes write and its registers hold.
+/// A test, with what goes by it alone: its events, what its writes write and its registers hold, and what each write writes at least.
 #[derive(Drop)]
 pub struct Problem<'t> {
     pub test: &'t Test,
     pub events: Vec<Entry>,
     pub expressions: Expressions,
+    pub bounds: Vec<Bound>,
 }
 
-/// A read, what it can read from, and what it can return.
+/// A read, what it can read from, what it can return, and the least of that.
 #[derive(Drop)]
 pub struct Reading {
     pub read: Entry,
@@ -30,15 +32,17 @@ pub struct Reading {
     pub sources: Vec<Option<Entry>>,
     /// None is any value.
     pub values: Option<Vec<u32>>,
+    pub least: u32,
 }
 
-/// What each read can read from and return, and by it what each instruction can make and each write can write; the last of the values
-/// is that of no write.
+/// What each read can read from and return, and by it what each instruction can make and each write can write, and the least of that;
+/// the last of the values is that of no write.
 #[derive(Drop)]
 pub struct Table {
     pub readings: Vec<Reading>,
     pub made: Vec<Option<Vec<u32>>>,
     pub values: Vec<Option<Vec<u32>>>,
+    pub least: Vec<u32>,
 }
 
 /// What is told of a test: facts, and a table.
@@ -52,6 +56,7 @@ pub struct Told<'a> {
     pub readings: &'a [Reading],
     pub made: &'a [Option<Vec<u32>>],
     pub values: &'a [Option<Vec<u32>>],
+    pub least: &'a [u32],
 }
 
 /// A test, with what goes by it alone.
@@ -62,10 +67,12 @@ pub fn make_problem<'t>(alloc: Global, test: &'t Test) -> Result<Problem<'t>, No
 {
     let events = make_events(alloc, test)?;
     let expressions = make_expressions(alloc, test)?;
+    let bounds = make_bounds(alloc, test, &events, &expressions)?;
     Ok(Problem {
         test,
         events,
         expressions,
+        bounds,
     })
 }
 
@@ -90,6 +97,7 @@ pub fn told_by<'a>(problem: &'a Problem<'a>, facts: &'a [Fact<'a>], table: &'a T
         readings: &table.readings,
         made: &table.made,
         values: &table.values,
+        least: &table.least,
     }
 }
 
@@ -97,6 +105,7 @@ pub fn told_by<'a>(problem: &'a Problem<'a>, facts: &'a [Fact<'a>], table: &'a T
 pub fn reading_for<'a>(readings: &'a [Reading], read: &Entry) -> Option<&'a Reading>
     ensures sources { (t : Litmus) → spec.sources_read t (readings_of readings.now) read.now ≡ sources_or (sources_of t read.now) result }
     ensures values { spec.values_read (readings_of readings.now) read.now ≡ values_or_any result }
+    ensures least { spec.least_read (readings_of readings.now) read.now ≡ least_or_none result }
 {
     for x in readings {
         if same_event(&x.read, read) {

@@ -1,49 +1,73 @@
 //! Why a case is closed: a leaf, and the answers that it uses.
 
-use crate::lists::{List, NONE};
 use crate::problem::Relations;
 use std::alloc::Global;
+use tso_terms::NoMemory;
 
 /// What kind of leaf closes a case.
 #[derive(Clone, Copy)]
 pub enum Closing {
-    None,
+    /// None is found.
+    Nothing,
     /// A cycle of edges that these relations have.
     Cycle(Relations),
-    Between,
+    /// The load part, the write between, and the store part.
+    Between(usize, usize, usize),
     False,
 }
 
-/// A leaf: its cycle, or the three events of a write between; and the facts that it uses.
+/// A leaf: its cycle, if it is one; and the facts that it uses.
 #[derive(Drop)]
 pub struct Evidence {
     pub closing: Closing,
-    pub cycle: List<usize>,
-    pub facts: List<usize>,
-    pub cost: usize,
+    pub cycle: Vec<usize>,
+    pub facts: Vec<usize>,
+    /// How much it costs, once it is offered.
+    pub cost: Option<usize>,
 }
 
-/// No leaf yet.
-pub fn make_evidence(alloc: Global) -> Evidence {
-    Evidence {
-        closing: Closing::None,
-        cycle: List::new(alloc, 0, NONE),
-        facts: List::new(alloc, 0, NONE),
-        cost: NONE,
+impl Evidence {
+    /// No leaf yet.
+    pub fn none(alloc: Global) -> Evidence {
+        Evidence {
+            closing: Closing::Nothing,
+            cycle: Vec::new(alloc),
+            facts: Vec::new(alloc),
+            cost: None,
+        }
     }
-}
 
-/// Begins a leaf anew.
-pub fn reset(evidence: &mut Evidence, closing: Closing) {
-    evidence.closing = closing;
-    evidence.cycle.cut(0);
-    evidence.facts.cut(0);
-    evidence.cost = NONE;
-}
+    /// Begins a leaf anew.
+    pub fn reset(&mut self, closing: Closing) {
+        self.closing = closing;
+        self.cycle.truncate(0);
+        self.facts.truncate(0);
+        self.cost = None;
+    }
 
-/// Adds a fact that the leaf uses.
-pub fn need(evidence: &mut Evidence, fact: usize) {
-    if fact != NONE {
-        evidence.facts.push(fact);
+    /// Adds an event to the cycle.
+    ///
+    /// Errors: out of memory only.
+    pub fn show(&mut self, event: usize) -> Result<(), NoMemory> {
+        self.cycle.push(event)?;
+        Ok(())
+    }
+
+    /// Adds a fact that the leaf uses.
+    ///
+    /// Errors: out of memory only.
+    pub fn need(&mut self, fact: usize) -> Result<(), NoMemory> {
+        self.facts.push(fact)?;
+        Ok(())
+    }
+
+    /// Adds the fact that the leaf uses, if there is one.
+    ///
+    /// Errors: out of memory only.
+    pub fn need_any(&mut self, fact: Option<usize>) -> Result<(), NoMemory> {
+        if let Some(fact) = fact {
+            self.facts.push(fact)?;
+        }
+        Ok(())
     }
 }

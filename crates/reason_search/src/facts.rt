@@ -1,6 +1,5 @@
 //! What stands on a branch of the search: answers, and the edges that they tell.
 
-use crate::lists::NONE;
 use crate::problem::Relations;
 
 /// An answer: what a read reads from, or that one write comes before another one.
@@ -27,12 +26,13 @@ pub struct Link {
     pub is_from_read: bool,
 }
 
-/// An edge that answers tell; `next` is another one that leaves the same event.
+/// An edge that answers tell.
 #[derive(Clone, Copy)]
 pub struct Edge {
     pub link: Link,
     pub relations: Relations,
-    pub next: usize,
+    /// Another one that leaves the same event.
+    pub next: Option<usize>,
 }
 
 /// An order of two writes, with the number of the fact that tells it, and of the edges before that: why can't it be the other one?
@@ -43,22 +43,3 @@ pub struct Turned {
     pub fact: usize,
     pub edges: usize,
 }
-
-/// What is where there is no fact.
-pub const NO_FACT: Fact = Fact {
-    answer: Answer::Before(NONE, NONE),
-    tried: true,
-    edges: 0,
-};
-
-/// What is where there is no edge.
-pub const NO_EDGE: Edge = Edge {
-    link: Link {
-        from: NONE,
-        to: NONE,
-        fact: NONE,
-        is_from_read: false,
-    },
-    relations: Relations::Coherence,
-    next: NONE,
-};

@@ -1,23 +1,19 @@
 //! The search: questions are asked, what follows is noted, and where a branch is closed its tree is made and the next answer tried.
 //! An answer that its tree doesn't use is no question: the tree is in its place.
 
-use crate::branch::{Branch, DIRTY, Mark, VALUED, make_branch, mark_here, undo};
+use crate::branch::{Branch, DIRTY, Mark, VALUED};
 use crate::chance::{Chance, FIRST_CHANCE};
-use crate::choosing::{Ask, Choice, choose};
+use crate::choosing::{Ask, choose};
+use crate::deducing::deduce;
+use crate::desk::Desk;
 use crate::edges::{put_before, put_program};
-use crate::evidence::make_evidence;
-use crate::growing::no_trees;
-use crate::lists::{List, NONE};
-use crate::looking::{deduce, put_source};
-use crate::offers::Desk;
-use crate::paths::{lack_memory, make_paths};
 use crate::problem::Problem;
-use crate::questions::{NO_FRAME, Questions, begin};
+use crate::questions::{Frame, Questions};
 use crate::reasoning::{add_conflict, add_order_question, add_source_question, wrap};
-use crate::rows::Rows;
-use crate::values::{Known, NOTHING, find_values};
-use crate::weights::Weights;
+use crate::sources::put_source;
+use crate::values::{Known, find_values};
 use std::alloc::Global;
+use tso_terms::NoMemory;
 
 /// A search.
 #[derive(Drop)]
@@ -45,198 +41,215 @@ pub enum Find {
     Paused,
 }
 
-/// A search that hasn't begun.
-pub fn make_hunt(alloc: Global, problem: &Problem) -> Hunt {
-    let size = problem.size;
-    // So many facts a branch may have at most: a read has one source, and a write is before others.
-    let most_facts = size.wrapping_mul(problem.most_writes.wrapping_add(2));
-    let mut branch = make_branch(alloc, problem);
-    put_program(problem, &mut branch);
-    Hunt {
-        start: mark_here(&branch),
-        branch,
-        desk: Desk {
-            paths: make_paths(alloc, size),
-            inner: make_paths(alloc, size),
-            best: make_evidence(alloc),
-            trial: make_evidence(alloc),
-            trees: no_trees(alloc),
-            used: Rows::new(alloc, 1, most_facts),
-            above: 0,
-            branches: List::new(alloc, size, NONE),
-            weights: Weights::new(alloc, size),
-        },
-        questions: Questions::none(alloc),
-        cases: 0,
-        round: 0,
-        chance: FIRST_CHANCE,
+impl Hunt {
+    /// A search that hasn't begun.
+    ///
+    /// Errors: out of memory only.
+    pub fn new(alloc: Global, problem: &Problem) -> Result<Hunt, NoMemory> {
+        let mut branch = Branch::new(alloc, problem)?;
+        put_program(problem, &mut branch)?;
+        Ok(Hunt {
+            start: branch.mark(),
+            branch,
+            desk: Desk::new(alloc, problem)?,
+            questions: Questions::none(alloc),
+            cases: 0,
+            round: 0,
+            chance: FIRST_CHANCE,
+        })
     }
-}
-
-/// Whether memory was refused.
-pub fn is_refused(hunt: &Hunt) -> bool {
-    let Hunt {
-        branch,
-        desk,
-        questions,
-        ..
-    } = hunt;
-    branch.rows.words.is_refused
-        | branch.trail.is_refused
-        | branch.facts.is_refused
-        | branch.edges.is_refused
-        | branch.heads.is_refused
-        | branch.source.is_refused
-        | branch.values.is_refused
-        | branch.moments.is_refused
-        | branch.sets.words.is_refused
-        | questions.frames.is_refused
-        | questions.answers.is_refused
-        | questions.tried.is_refused
-        | questions.used.is_refused
-        | lack_memory(&desk.paths)
-        | lack_memory(&desk.inner)
-        | desk.best.cycle.is_refused
-        | desk.best.facts.is_refused
-        | desk.trial.cycle.is_refused
-        | desk.trial.facts.is_refused
-        | desk.trees.twigs.is_refused
-        | desk.trees.events.is_refused
-        | desk.used.words.is_refused
-        | desk.branches.is_refused
-        | desk.weights.of.is_refused
 }
 
 /// Tries an answer of a question. False where that closes the branch.
-fn put_answer(problem: &Problem, branch: &mut Branch, ask: Ask, answer: usize) -> bool {
+fn put_answer(
+    problem: &Problem,
+    branch: &mut Branch,
+    ask: Ask,
+    answer: usize,
+) -> Result<bool, NoMemory> {
     match ask {
-        Ask::Source(r) => put_source(problem, branch, r, answer, true),
-        Ask::Order(a, b) => {
-            if answer == 0 {
-                put_before(problem, branch, b, a, true)
-            } else {
-                put_before(problem, branch, a, b, true)
+        Ask::Source(read) => put_source(problem, branch, read, answer, true)?,
+        Ask::Order(first, second) => {
+            let later = if answer == first { second } else { first };
+            put_before(problem, branch, answer, later, true)?
+        }
+    }
+    Ok(!branch.is_closed())
+}
+
+/// The question whose answers were all tried, with their trees below it.
+fn close_question(
+    problem: &Problem,
+    hunt: &mut Hunt,
+    frame: &Frame,
+    tree: usize,
+) -> Result<usize, NoMemory> {
+    let desk = &mut hunt.desk;
+    hunt.questions
+        .put_trees(frame, &mut desk.branches, &mut desk.used);
+    desk.above = hunt.branch.facts.len();
+    match frame.ask {
+        Ask::Source(read) => add_source_question(problem, &mut hunt.branch, desk, read),
+        Ask::Order(first, second) => {
+            let of_first = desk.take_tree(first);
+            let of_second = desk.take_tree(second);
+            match (of_first, of_second) {
+                (Some(one), Some(other)) => { add_order_question(desk, first, second, one, other) }
+                _ => Ok(tree),
             }
         }
     }
-    !branch.is_closed()
+}
+
+/// Where going back from a closed branch has led.
+#[derive(Clone, Copy)]
+enum Back {
+    /// To an answer that is open.
+    Open,
+    /// To a question that this tree closes.
+    Closed(usize),
+}
+
+/// Goes back to the last question with the tree of its answer that was tried. An answer that the tree doesn't use is no question: the tree
+/// closes it.
+fn go_back_once(
+    problem: &Problem,
+    hunt: &mut Hunt,
+    frame: &Frame,
+    below: usize,
+) -> Result<Back, NoMemory> {
+    let next = frame.mark.facts.wrapping_add(1);
+    let tree = wrap(problem, &mut hunt.branch, &mut hunt.desk, next, below)?;
+    hunt.branch.undo(&frame.mark);
+    if !hunt.desk.used.has(0, frame.mark.facts) {
+        hunt.questions.take_back(frame);
+        return Ok(Back::Closed(tree));
+    }
+    let Some(answer) = hunt.questions.keep(frame, tree, &hunt.desk.used)? else {
+        return Ok(Back::Closed(close_question(problem, hunt, frame, tree)?));
+    };
+    if put_answer(problem, &mut hunt.branch, frame.ask, answer)? {
+        return Ok(Back::Open);
+    }
+    let closed = add_conflict(problem, &mut hunt.branch, &mut hunt.desk)?;
+    Ok(Back::Closed(closed))
 }
 
 /// Goes back from a closed branch to the next answer that is open. The tree where there is none.
-fn go_back(problem: &Problem, hunt: &mut Hunt) -> usize {
-    let mut tree = add_conflict(problem, &mut hunt.branch, &mut hunt.desk);
+fn go_back(problem: &Problem, hunt: &mut Hunt) -> Result<Option<usize>, NoMemory> {
+    let mut tree = add_conflict(problem, &mut hunt.branch, &mut hunt.desk)?;
     for _step in 0..u64::MAX {
-        if is_refused(hunt) {
-            return NONE;
-        }
-        let asked = hunt.questions.frames.len();
-        if asked == 0 {
-            return wrap(problem, &mut hunt.branch, &mut hunt.desk, 0, tree);
-        }
-        let frame = hunt.questions.frames.at(asked.wrapping_sub(1));
-        let next = frame.mark.facts.wrapping_add(1);
-        let desk = &mut hunt.desk;
-        tree = wrap(problem, &mut hunt.branch, desk, next, tree);
-        undo(&mut hunt.branch, &frame.mark);
-        if !desk.used.has(0, frame.mark.facts) {
-            // The tree doesn't use the answer, and closes the question.
-            hunt.questions.take_back(&frame);
-            continue;
-        }
-        let answer = hunt.questions.keep(&frame, tree, &desk.used);
-        if answer != NONE {
-            if put_answer(problem, &mut hunt.branch, frame.ask, answer) {
-                return NONE;
-            }
-            tree = add_conflict(problem, &mut hunt.branch, desk);
-            continue;
-        }
-        hunt.questions
-            .put_trees(&frame, &mut desk.branches, &mut desk.used);
-        desk.above = hunt.branch.facts.len();
-        tree = match frame.ask {
-            Ask::Source(r) => add_source_question(problem, &mut hunt.branch, desk, r),
-            Ask::Order(a, b) => {
-                let second = desk.branches.at(0);
-                let first = desk.branches.at(1);
-                desk.branches.put(0, NONE);
-                desk.branches.put(1, NONE);
-                add_order_question(desk, a, b, first, second)
-            }
+        let Some(frame) = hunt.questions.last() else {
+            let whole = wrap(problem, &mut hunt.branch, &mut hunt.desk, 0, tree)?;
+            return Ok(Some(whole));
         };
+        match go_back_once(problem, hunt, &frame, tree)? {
+            Back::Open => return Ok(None),
+            Back::Closed(closed) => tree = closed,
+        }
     }
-    NONE
+    Ok(None)
+}
+
+/// Notes what every read returns: the order of an execution has that.
+fn find_all_values(problem: &Problem, branch: &mut Branch) {
+    for location in 0..problem.locations {
+        branch.sets.join(VALUED, &problem.readers_of, location);
+    }
+    let known = Known::on(branch);
+    find_values(problem, branch, known);
+}
+
+/// Asks a question, and tries its first answer. False where that closes the branch.
+fn ask_next(problem: &Problem, hunt: &mut Hunt, ask: Ask) -> Result<bool, NoMemory> {
+    let by_chance = hunt.round != 0;
+    let answer = hunt
+        .questions
+        .begin(problem, &hunt.branch, &mut hunt.chance, ask, by_chance)?;
+    match answer {
+        Some(answer) => put_answer(problem, &mut hunt.branch, ask, answer),
+        None => Ok(false),
+    }
+}
+
+/// What a case came to.
+#[derive(Clone, Copy)]
+enum Case {
+    /// It is closed.
+    Closed,
+    /// It is open, and has another answer.
+    Open,
+    /// No question is left.
+    Allowed,
+}
+
+/// Looks at a case: notes what follows, and asks the next question.
+fn look_at_case(problem: &Problem, hunt: &mut Hunt) -> Result<Case, NoMemory> {
+    if !deduce(problem, &mut hunt.branch)? {
+        return Ok(Case::Closed);
+    }
+    let Some(ask) = choose(problem, &hunt.branch, &hunt.desk.weights, hunt.round) else {
+        find_all_values(problem, &mut hunt.branch);
+        return Ok(Case::Allowed);
+    };
+    if ask_next(problem, hunt, ask)? {
+        Ok(Case::Open)
+    } else {
+        Ok(Case::Closed)
+    }
 }
 
 /// Looks at all, and searches until all is closed, or a branch is open to the end, or more cases were looked at than this.
-fn search(problem: &Problem, hunt: &mut Hunt, most: usize) -> Find {
+fn search(problem: &Problem, hunt: &mut Hunt, most: usize) -> Result<Find, NoMemory> {
     let pause = hunt.cases.wrapping_add(most);
-    for a in 0..problem.size {
-        hunt.branch.sets.add(DIRTY, a);
-    }
-    hunt.branch.claim_is_dirty = true;
+    hunt.branch.look_at_all();
     for _case in 0..u64::MAX {
         hunt.cases = hunt.cases.wrapping_add(1);
-        if (hunt.cases > pause) | is_refused(hunt) {
-            return Find::Paused;
+        if hunt.cases > pause {
+            break;
         }
-        if deduce(problem, &mut hunt.branch) {
-            let Choice { ask, weight } = choose(
-                problem,
-                &hunt.branch,
-                &hunt.desk.weights,
-                hunt.round,
-            );
-            if weight == NONE {
-                // The order of an execution has what every read returns.
-                for loc in 0..problem.locations {
-                    hunt.branch.sets.join(VALUED, &problem.readers_of, loc);
+        match look_at_case(problem, hunt)? {
+            Case::Open => {}
+            Case::Allowed => return Ok(Find::Allowed),
+            Case::Closed => {
+                if let Some(tree) = go_back(problem, hunt)? {
+                    return Ok(Find::Refuted(tree));
                 }
-                let known = Known {
-                    limit: hunt.branch.facts.len(),
-                    ..NOTHING
-                };
-                find_values(problem, &mut hunt.branch, known);
-                return Find::Allowed;
             }
-            let by_chance = hunt.round != 0;
-            let answer = begin(
-                problem,
-                &hunt.branch,
-                &mut hunt.questions,
-                &mut hunt.chance,
-                ask,
-                by_chance,
-            );
-            if put_answer(problem, &mut hunt.branch, ask, answer) {
-                continue;
-            }
-        }
-        let tree = go_back(problem, hunt);
-        if tree != NONE {
-            return Find::Refuted(tree);
         }
     }
-    Find::Paused
+    Ok(Find::Paused)
+}
+
+/// Looks at one event after the other in an order of chance, with all that follows.
+fn look_by_chance(problem: &Problem, hunt: &mut Hunt) -> Result<(), NoMemory> {
+    for _event in 0..problem.size {
+        let next = hunt.chance.below(problem.size);
+        hunt.branch.sets.add(DIRTY, next);
+        if !deduce(problem, &mut hunt.branch)? {
+            break;
+        }
+    }
+    Ok(())
 }
 
 /// Begins anew, with what it learnt of which questions matter, and looks at so many cases at most. Where `by_chance` says so, it looks
 /// first at one event after the other in an order of chance, with all that follows: so it may find a smaller tree.
-pub fn hunt_for(problem: &Problem, hunt: &mut Hunt, most: usize, by_chance: bool) -> Find {
-    undo(&mut hunt.branch, &hunt.start);
-    hunt.questions.take_back(&NO_FRAME);
-    hunt.desk.trees.twigs.cut(0);
-    hunt.desk.trees.events.cut(0);
+///
+/// Errors: out of memory only.
+pub fn hunt_for(
+    problem: &Problem,
+    hunt: &mut Hunt,
+    most: usize,
+    by_chance: bool,
+) -> Result<Find, NoMemory> {
+    hunt.branch.undo(&hunt.start);
+    hunt.questions.clear();
+    hunt.desk.trees.clear();
     if by_chance {
-        for _event in 0..problem.size {
-            let next = hunt.chance.below(problem.size);
-            hunt.branch.sets.add(DIRTY, next);
-            if !deduce(problem, &mut hunt.branch) {
-                break;
-            }
-        }
+        look_by_chance(problem, hunt)?;
     }
-    let found = search(problem, hunt, most);
+    let found = search(problem, hunt, most)?;
     hunt.round = hunt.round.wrapping_add(1);
-    found
+    Ok(found)
 }

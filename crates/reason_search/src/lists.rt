@@ -3,10 +3,10 @@
 use std::alloc::Global;
 use tso_terms::NoMemory;
 
-/// No number.
+/// No number, for callers whose numbers have no `Option`.
 pub const NONE: usize = usize::MAX;
 
-/// A list that has `none` wherever it has no item. Where memory is refused it notes that, and stays as it is.
+/// A list that has `none` wherever it has no item. One that was made by `new` notes it where memory is refused, and stays as it is.
 #[derive(Drop)]
 pub struct List<T: Copy> {
     pub items: Vec<T>,
@@ -26,15 +26,26 @@ impl<T: Copy> List<T> {
         }
     }
 
+    /// The same, for a list that doesn't grow.
+    ///
+    /// Errors: out of memory only.
+    pub fn filled(alloc: Global, count: usize, none: T) -> Result<List<T>, NoMemory> {
+        Ok(List {
+            items: vec![in alloc; none; count]?,
+            none,
+            is_refused: false,
+        })
+    }
+
     /// How many items there are.
     pub fn len(&self) -> usize {
         self.items.len()
     }
 
     /// The item at a place.
-    pub fn at(&self, i: usize) -> T {
-        if i < self.items.len() {
-            self.items[i]
+    pub fn at(&self, place: usize) -> T {
+        if place < self.items.len() {
+            self.items[place]
         } else {
             self.none
         }
@@ -51,9 +62,9 @@ impl<T: Copy> List<T> {
     }
 
     /// Writes an item at a place that there is.
-    pub fn put(&mut self, i: usize, item: T) {
-        if i < self.items.len() {
-            self.items[i] = item;
+    pub fn put(&mut self, place: usize, item: T) {
+        if place < self.items.len() {
+            self.items[place] = item;
         }
     }
 

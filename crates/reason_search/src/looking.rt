@@ -1,53 +1,13 @@
-//! What follows at a write, at a read and at a location, and all that follows in a branch.
+//! What follows at a write, at a read and at a location.
 
-use crate::branch::{
-    Branch, Change, Conflict, DIRTY, PARTED, UNTESTED, add_fact, change_word, put_moment,
-};
+use crate::branch::{Branch, Conflict, PARTED, UNTESTED};
 use crate::edges::{add_edge, put_before};
-use crate::facts::{Answer, Link};
-use crate::lists::NONE;
-use crate::problem::{Problem, RELEVANT, Relations, STORED};
-use crate::rows::{bit, lowest};
-use crate::values::{
-    Known, NOTHING, find_values, is_wrong_source, is_wrong_value, parts_that_can_be,
-};
-
-/// A read has this source. To be looked at is then what its value may change: what may have as its source a write whose value hangs on the
-/// read; and where the source's value hangs on others, each read with no source on whose value what is asked may hang.
-pub fn put_source(problem: &Problem, branch: &mut Branch, r: usize, w: usize, tried: bool) {
-    let fact = add_fact(branch, Answer::Source(r, w), tried);
-    let link = Link {
-        from: w,
-        to: r,
-        fact,
-        is_from_read: false,
-    };
-    branch.trail.push(Change::Source(r));
-    branch.source.put(r, fact);
-    branch.sets.add(DIRTY, r);
-    let is_stored = problem.reads.has(STORED, r);
-    let hangs = problem.terms.is_read(w);
-    let all = hangs & problem.reads.has(RELEVANT, r);
-    if is_stored | all {
-        for a in problem.locations..problem.size {
-            let event = problem.events.at(a);
-            if event.writes && problem.terms.hangs.has(a, r) {
-                branch.sets.join(DIRTY, &problem.readers_of, event.location);
-            }
-            if all && problem.reads.has(RELEVANT, a) && branch.source.at(a) == NONE {
-                branch.sets.add(DIRTY, a);
-            }
-        }
-    }
-    // What no other value hangs on was tested as a source.
-    branch.claim_is_dirty |= hangs | is_stored;
-    add_edge(problem, branch, Relations::OnLocation, link);
-    // Its own core's writes a read may read before others see them.
-    let core = problem.events.at(r).core;
-    if !problem.events_of.has(core, w) {
-        add_edge(problem, branch, Relations::Global, link);
-    }
-}
+use crate::facts::Link;
+use crate::problem::{Event, Problem, Relations};
+use crate::rows::{Numbers, bit};
+use crate::sources::put_source;
+use crate::values::{is_wrong_source, is_wrong_value};
+use tso_terms::NoMemory;
 
 /// Where each of some writes is put.
 #[derive(Clone, Copy)]
@@ -56,191 +16,266 @@ enum Put {
     Before(usize),
     /// After this write, if it is another one.
     After(usize),
-    /// After this read, since it is after the read's source.
-    FromRead(usize),
+    /// After this read, since it is after the read's source, as this fact tells.
+    FromRead(usize, usize),
+}
+
+/// A write comes after a read.
+fn put_from_read(
+    problem: &Problem,
+    branch: &mut Branch,
+    read: usize,
+    fact: usize,
+    write: usize,
+) -> Result<(), NoMemory> {
+    let link = Link {
+        from: read,
+        to: write,
+        fact,
+        is_from_read: true,
+    };
+    add_edge(problem, branch, Relations::OnLocation, link)?;
+    add_edge(problem, branch, Relations::Global, link)
 }
 
 /// Puts each write of a word in its place.
-fn put_each(problem: &Problem, branch: &mut Branch, put: Put, k: usize, some: u64) {
-    let mut left = some;
-    for _write in 0..64u8 {
-        if left == 0 {
-            break;
-        }
-        let v = lowest(k, left);
-        left &= left.wrapping_sub(1);
+fn put_each(
+    problem: &Problem,
+    branch: &mut Branch,
+    put: Put,
+    word: usize,
+    writes: u64,
+) -> Result<(), NoMemory> {
+    for write in Numbers::of(word, writes) {
         match put {
-            Put::Before(w) => put_before(problem, branch, v, w, false),
-            Put::After(w) => put_before(problem, branch, w, v, false),
-            Put::FromRead(r) => {
-                let link = Link {
-                    from: r,
-                    to: v,
-                    fact: branch.source.at(r),
-                    is_from_read: true,
-                };
-                add_edge(problem, branch, Relations::OnLocation, link);
-                add_edge(problem, branch, Relations::Global, link);
-            }
+            Put::Before(other) => put_before(problem, branch, write, other, false)?,
+            Put::After(other) => put_before(problem, branch, other, write, false)?,
+            Put::FromRead(read, fact) => put_from_read(problem, branch, read, fact, write)?,
+        }
+    }
+    Ok(())
+}
+
+/// What follows at a write: those to its location that are after it by one of the relations are after it in coherence.
+///
+/// Errors: out of memory only.
+pub fn look_at_write(problem: &Problem, branch: &mut Branch, write: usize) -> Result<(), NoMemory> {
+    let location = problem.event(write).location;
+    for word in 0..branch.rows.width {
+        let later = branch.word_after(Relations::OnLocation, write, word)
+            | branch.word_after(Relations::Global, write, word);
+        let known = branch.word_after(Relations::Coherence, write, word);
+        let others = problem.writes_to.word(location, word) & !known;
+        put_each(problem, branch, Put::After(write), word, later & others)?;
+    }
+    Ok(())
+}
+
+/// Writes that are after a read's source come after the read; those before the read come before its source. Only these writes are put.
+fn put_round_read(
+    problem: &Problem,
+    branch: &mut Branch,
+    read: usize,
+    source: usize,
+    word: usize,
+    writes: u64,
+) -> Result<(), NoMemory> {
+    let later = branch.word_after(Relations::Coherence, source, word);
+    let passed = branch.word_after(Relations::OnLocation, read, word)
+        & branch.word_after(Relations::Global, read, word);
+    if let Some(fact) = branch.source.at(read) {
+        let put = Put::FromRead(read, fact);
+        put_each(problem, branch, put, word, later & !passed & writes)?;
+    }
+    // None comes before an initial write.
+    if source < problem.locations {
+        return Ok(());
+    }
+    let earlier = branch.word_before(Relations::OnLocation, read, word)
+        | branch.word_before(Relations::Global, read, word);
+    let known = branch.word_before(Relations::Coherence, source, word);
+    put_each(
+        problem,
+        branch,
+        Put::Before(source),
+        word,
+        earlier & !known & writes,
+    )
+}
+
+/// No write comes between the source of a load part and its store part. Only these writes are put.
+fn put_round_parts(
+    problem: &Problem,
+    branch: &mut Branch,
+    source: usize,
+    store: usize,
+    word: usize,
+    writes: u64,
+) -> Result<(), NoMemory> {
+    let later = branch.word_after(Relations::Coherence, source, word)
+        & !branch.word_after(Relations::Coherence, store, word);
+    put_each(problem, branch, Put::After(store), word, later & writes)?;
+    if source < problem.locations {
+        return Ok(());
+    }
+    let earlier = branch.word_before(Relations::Coherence, store, word)
+        & !branch.word_before(Relations::Coherence, source, word);
+    put_each(problem, branch, Put::Before(source), word, earlier & writes)
+}
+
+/// What follows at a read whose source is known: writes that come before the read, or its store part, come before the source, and those
+/// after the source come after the read.
+fn look_at_known(
+    problem: &Problem,
+    branch: &mut Branch,
+    read: usize,
+    source: usize,
+) -> Result<(), NoMemory> {
+    let event = problem.event(read);
+    for word in 0..branch.rows.width {
+        let writes = problem.writes_to.word(event.location, word);
+        put_round_read(problem, branch, read, source, word, writes)?;
+        if let Some(store) = event.partner {
+            put_round_parts(problem, branch, source, store, word, writes)?;
+        }
+    }
+    Ok(())
+}
+
+/// A word of what is known to come before a read, or before its store part.
+fn word_before_parts(branch: &Branch, read: usize, event: Event, word: usize) -> u64 {
+    let earlier = branch.word_before(Relations::OnLocation, read, word)
+        | branch.word_before(Relations::Global, read, word);
+    match event.partner {
+        Some(store) => earlier | branch.word_before(Relations::Coherence, store, word),
+        None => earlier,
+    }
+}
+
+/// Notes what is before one of the writes to its location that are known to come before a read, or before its store part.
+fn note_parted(problem: &Problem, branch: &mut Branch, read: usize, event: Event) {
+    branch.sets.clear(PARTED);
+    for word in 0..branch.rows.width {
+        let earlier = word_before_parts(branch, read, event, word);
+        let writes = problem.writes_to.word(event.location, word);
+        for write in Numbers::of(word, earlier & writes) {
+            let row = branch.before(Relations::Coherence, write);
+            branch.sets.join(PARTED, &branch.rows, row);
         }
     }
 }
 
-/// What follows at a read whose source is known: writes that come before the read, or its store part, come before the source, and those
-/// after the source come after the read. No write comes between the source of a load part and its store part.
-fn look_at_known(problem: &Problem, branch: &mut Branch, r: usize, s: usize) {
-    let event = problem.events.at(r);
-    let own = event.partner;
-    for k in 0..branch.rows.width {
-        let them = problem.writes_to.word(event.location, k);
-        // None comes before an initial write.
-        let others = if s < problem.locations { 0 } else { them };
-        let later = branch.word_after(Relations::Coherence, s, k);
-        let passed = branch.word_after(Relations::OnLocation, r, k)
-            & branch.word_after(Relations::Global, r, k);
-        put_each(problem, branch, Put::FromRead(r), k, later & !passed & them);
-        let earlier = branch.word_before(Relations::OnLocation, r, k)
-            | branch.word_before(Relations::Global, r, k);
-        let earlier = earlier & !branch.word_before(Relations::Coherence, s, k);
-        put_each(problem, branch, Put::Before(s), k, earlier & others);
-        if own != NONE {
-            let later = branch.word_after(Relations::Coherence, s, k)
-                & !branch.word_after(Relations::Coherence, own, k);
-            put_each(problem, branch, Put::After(own), k, later & them);
-            let earlier = branch.word_before(Relations::Coherence, own, k)
-                & !branch.word_before(Relations::Coherence, s, k);
-            put_each(problem, branch, Put::Before(s), k, earlier & others);
+/// A word of the sources that a read can't have by what is parted, nor by those that it is known to be before.
+fn barred_word(problem: &Problem, branch: &Branch, read: usize, event: Event, word: usize) -> u64 {
+    let own = problem.events_of.word(event.core, word);
+    branch.word_after(Relations::OnLocation, read, word)
+        | branch.word_after(Relations::Global, read, word) & !own
+        | branch.sets.word(PARTED, word)
+}
+
+/// Takes from a read the sources of a word that it can't have: those that are barred, and of a wrong value, unless that is tested.
+fn bar_sources(
+    problem: &Problem,
+    branch: &mut Branch,
+    read: usize,
+    word: usize,
+    barred: u64,
+    is_tested: bool,
+) -> Result<(), NoMemory> {
+    let row = branch.candidates(read);
+    let sources = branch.rows.word(row, word);
+    let asked = if is_tested { sources & barred } else { sources };
+    let mut kept = sources;
+    for source in Numbers::of(word, asked) {
+        if barred & bit(source) != 0 || is_wrong_source(problem, branch, read, source) {
+            kept &= !bit(source);
+            branch.put_moment(problem, read, source)?;
         }
     }
+    if kept != sources {
+        branch.change_word(row, word, kept)?;
+    }
+    Ok(())
 }
 
 /// What follows at a read whose source is open: it can't have those that it is known to be before, nor any but the last before it, nor
 /// those of a wrong value, if that isn't tested yet.
-fn look_at_open(problem: &Problem, branch: &mut Branch, r: usize) {
-    let event = problem.events.at(r);
-    // What is before one of the writes to its location that are known to come before it, or its store part.
-    branch.sets.clear(PARTED);
-    for k in 0..branch.rows.width {
-        let mut earlier = branch.word_before(Relations::OnLocation, r, k)
-            | branch.word_before(Relations::Global, r, k);
-        if event.partner != NONE {
-            earlier |= branch.word_before(Relations::Coherence, event.partner, k);
-        }
-        let mut left = earlier & problem.writes_to.word(event.location, k);
-        for _write in 0..64u8 {
-            if left == 0 {
-                break;
+fn look_at_open(problem: &Problem, branch: &mut Branch, read: usize) -> Result<(), NoMemory> {
+    let event = problem.event(read);
+    note_parted(problem, branch, read, event);
+    let is_tested = !branch.sets.has(UNTESTED, read);
+    for word in 0..branch.rows.width {
+        let barred = barred_word(problem, branch, read, event, word);
+        bar_sources(problem, branch, read, word, barred, is_tested)?;
+    }
+    branch.sets.remove(UNTESTED, read);
+    let row = branch.candidates(read);
+    match branch.rows.first_from(row, 0) {
+        None => branch.conflict = Conflict::NoSource(read),
+        Some(only) => {
+            if branch.rows.count(row) == 1 {
+                put_source(problem, branch, read, only, false)?;
             }
-            let before = branch.before(Relations::Coherence, lowest(k, left));
-            branch.sets.join(PARTED, &branch.rows, before);
-            left &= left.wrapping_sub(1);
         }
     }
-    let is_tested = !branch.sets.has(UNTESTED, r);
-    let row = branch.candidates(r);
-    for k in 0..branch.rows.width {
-        let own = problem.events_of.word(event.core, k);
-        let barred = branch.word_after(Relations::OnLocation, r, k)
-            | branch.word_after(Relations::Global, r, k) & !own
-            | branch.sets.word(PARTED, k);
-        let sources = branch.rows.word(row, k);
-        let mut kept = sources;
-        let mut left = if is_tested { sources & barred } else { sources };
-        for _source in 0..64u8 {
-            if left == 0 {
-                break;
-            }
-            let s = lowest(k, left);
-            left &= left.wrapping_sub(1);
-            if barred & bit(s) != 0 || is_wrong_source(problem, branch, r, s) {
-                kept &= !bit(s);
-                put_moment(problem, branch, r, s);
-            }
-        }
-        if kept != sources {
-            change_word(branch, row, k, kept);
-        }
-    }
-    branch.sets.remove(UNTESTED, r);
-    match branch.rows.count(row) {
-        0 => branch.conflict = Conflict::NoSource(r),
-        1 => {
-            let only = branch.rows.next(row, 0);
-            put_source(problem, branch, r, only, false);
-        }
-        _ => {}
+    Ok(())
+}
+
+/// What follows at a read.
+///
+/// Errors: out of memory only.
+pub fn look_at_read(problem: &Problem, branch: &mut Branch, read: usize) -> Result<(), NoMemory> {
+    match branch.source_of(read) {
+        Some(source) => look_at_known(problem, branch, read, source),
+        None => look_at_open(problem, branch, read),
     }
 }
 
-/// The next write to a location, from a number on, that can be its last one; `NONE` where there is none.
-pub fn next_last(problem: &Problem, branch: &Branch, loc: usize, from: usize) -> usize {
-    for a in from..problem.size {
-        if !problem.writes_to.has(loc, a) {
+/// The next write to a location, from a number on, that can be its last one.
+pub fn next_last(
+    problem: &Problem,
+    branch: &Branch,
+    location: usize,
+    from: usize,
+) -> Option<usize> {
+    for write in from..problem.size {
+        if !problem.writes_to.has(location, write) {
             continue;
         }
-        let row = Relations::Coherence.row(branch.size, a);
-        if branch.rows.next(row, 0) == NONE && !is_wrong_value(problem, branch, loc, a) {
-            return a;
+        let row = Relations::Coherence.row(branch.size, write);
+        if branch.rows.is_empty(row) && !is_wrong_value(problem, branch, location, write) {
+            return Some(write);
         }
     }
-    NONE
+    None
 }
 
-/// Notes all that follows, first of all the values that are known. False where the branch is closed.
-pub fn deduce(problem: &Problem, branch: &mut Branch) -> bool {
-    for _step in 0..u64::MAX {
-        // What follows can't be noted where memory is refused, so it would follow again and again.
-        if branch.is_closed() | branch.facts.is_refused {
-            break;
-        }
-        if branch.claim_is_dirty {
-            branch.claim_is_dirty = false;
-            let known = Known {
-                limit: branch.facts.len(),
-                ..NOTHING
-            };
-            find_values(problem, branch, known);
-            branch.sets.join(UNTESTED, &problem.reads, RELEVANT);
-            if !parts_that_can_be(problem, branch, known, NONE, NONE).has(0) {
-                branch.conflict = Conflict::False;
-            }
-            continue;
-        }
-        let a = branch.sets.next(DIRTY, 0);
-        if a == NONE {
-            break;
-        }
-        branch.sets.remove(DIRTY, a);
-        let event = problem.events.at(a);
-        if event.writes {
-            // Writes that are after it by one of the relations are after it in coherence.
-            for k in 0..branch.rows.width {
-                let later = branch.word_after(Relations::OnLocation, a, k)
-                    | branch.word_after(Relations::Global, a, k);
-                let them = problem.writes_to.word(event.location, k);
-                let known = branch.word_after(Relations::Coherence, a, k);
-                put_each(problem, branch, Put::After(a), k, later & them & !known);
-            }
-        } else if event.reads {
-            let s = branch.source_of(a);
-            if s == NONE {
-                look_at_open(problem, branch, a);
-            } else {
-                look_at_known(problem, branch, a, s);
-            }
-        } else if problem.parts_on.at(a) != NONE {
-            // Something is asked of the location: where only one write can be its last one, all others come before it.
-            let only = next_last(problem, branch, a, 0);
-            branch.claim_is_dirty = true;
-            if only == NONE || next_last(problem, branch, a, only.wrapping_add(1)) != NONE {
-                continue;
-            }
-            for k in 0..branch.rows.width {
-                let known = branch.word_before(Relations::Coherence, only, k);
-                let others = problem.writes_to.word(a, k) & !known;
-                put_each(problem, branch, Put::Before(only), k, others);
-            }
-        }
+/// The only write to a location that can be its last one.
+fn only_last(problem: &Problem, branch: &Branch, location: usize) -> Option<usize> {
+    let only = next_last(problem, branch, location, 0)?;
+    match next_last(problem, branch, location, only.wrapping_add(1)) {
+        Some(_) => None,
+        None => Some(only),
     }
-    !branch.is_closed()
+}
+
+/// What follows at a location of which something is asked: where only one write can be its last one, all others come before it.
+///
+/// Errors: out of memory only.
+pub fn look_at_location(
+    problem: &Problem,
+    branch: &mut Branch,
+    location: usize,
+) -> Result<(), NoMemory> {
+    let only = only_last(problem, branch, location);
+    branch.claim_is_dirty = true;
+    let Some(only) = only else {
+        return Ok(());
+    };
+    for word in 0..branch.rows.width {
+        let known = branch.word_before(Relations::Coherence, only, word);
+        let others = problem.writes_to.word(location, word) & !known;
+        put_each(problem, branch, Put::Before(only), word, others)?;
+    }
+    Ok(())
 }

@@ -3,113 +3,107 @@
 
 use crate::branch::Branch;
 use crate::closing::add_best;
-use crate::evidence::{Closing, Evidence, need, reset};
+use crate::desk::Desk;
+use crate::evidence::Closing;
 use crate::facts::{Edge, Turned};
-use crate::growing::Trees;
-use crate::lists::{List, NONE};
-use crate::paths::{Edges, Paths, STARTS, begin, find, start_from, start_from_later};
-use crate::problem::{Event, Problem, Relations};
-use crate::rows::Rows;
-use crate::values::{Known, NOTHING, need_falsity};
-use crate::weights::Weights;
-use std::mem::swap;
-
-/// What reasons are made with.
-#[derive(Drop)]
-pub struct Desk {
-    pub paths: Paths,
-    pub inner: Paths,
-    pub best: Evidence,
-    pub trial: Evidence,
-    pub trees: Trees,
-    /// One row: the facts that the tree in hand uses.
-    pub used: Rows,
-    /// How many facts are above the tree in hand, if it uses them.
-    pub above: usize,
-    /// For each source its tree, while a question's branches are put together.
-    pub branches: List<usize>,
-    pub weights: Weights,
-}
+use crate::falsity::need_falsity;
+use crate::paths::{Edges, Step};
+use crate::problem::{Problem, Relations};
+use crate::values::{Known, Supposed};
+use tso_terms::NoMemory;
 
 /// Adds to the leaf in hand the facts that one write comes before another one, and to its cycle the writes that come between them.
+///
+/// Errors: out of memory only.
 pub fn show_order(
     problem: &Problem,
     branch: &Branch,
     desk: &mut Desk,
-    a: usize,
-    b: usize,
+    first: usize,
+    second: usize,
     limit: usize,
-) {
+) -> Result<(), NoMemory> {
     let edges = Edges {
         relations: Relations::Coherence,
         limit,
     };
-    begin(&mut desk.inner);
-    start_from(&mut desk.inner, a);
-    if !find(problem, branch, &mut desk.inner, edges, b) {
-        return;
+    desk.inner.begin();
+    desk.inner.start_from(first)?;
+    if !desk.inner.find(problem, branch, edges, second)? {
+        return Ok(());
     }
-    for i in (0..desk.inner.path.len()).rev() {
-        let step = desk.inner.path.at(i);
-        need(&mut desk.trial, branch.edges.at(step.edge).link.fact);
-        if step.from != a {
-            desk.trial.cycle.push(step.from);
+    for step in desk.inner.path.iter().rev() {
+        if let Some(edge) = step.told_edge(branch) {
+            desk.trial.need(edge.link.fact)?;
+        }
+        if step.from != first {
+            desk.trial.show(step.from)?;
         }
     }
+    Ok(())
 }
 
 /// Adds the facts of an edge; after its first event the writes are shown that come between a read's source and what it is before.
-pub fn need_edge(problem: &Problem, branch: &Branch, desk: &mut Desk, edge: Edge, limit: usize) {
-    need(&mut desk.trial, edge.link.fact);
+///
+/// Errors: out of memory only.
+pub fn need_edge(
+    problem: &Problem,
+    branch: &Branch,
+    desk: &mut Desk,
+    edge: Edge,
+    limit: usize,
+) -> Result<(), NoMemory> {
+    desk.trial.need(edge.link.fact)?;
     if edge.link.is_from_read {
-        let s = branch.source_of(edge.link.from);
-        show_order(problem, branch, desk, s, edge.link.to, limit);
-    }
-}
-
-/// Offers the leaf in hand: the better one is the best then. It costs as much as it uses facts that aren't used yet, and is long: a
-/// write between counts as a cycle of six.
-fn offer(desk: &mut Desk) {
-    let length = match desk.trial.closing {
-        Closing::Between => 6,
-        _ => desk.trial.cycle.len(),
-    };
-    let mut fresh = 0usize;
-    for i in 0..desk.trial.facts.len() {
-        if !desk.used.has(0, desk.trial.facts.at(i)) {
-            fresh = fresh.wrapping_add(1);
+        if let Some(source) = branch.source_of(edge.link.from) {
+            show_order(problem, branch, desk, source, edge.link.to, limit)?;
         }
     }
-    desk.trial.cost = fresh.wrapping_mul(64).wrapping_add(length);
-    if desk.trial.cost < desk.best.cost {
-        swap(&mut desk.trial, &mut desk.best);
+    Ok(())
+}
+
+/// Adds the facts of a step's edge, with orders that are told before it.
+fn need_step(
+    problem: &Problem,
+    branch: &Branch,
+    desk: &mut Desk,
+    step: Step,
+) -> Result<(), NoMemory> {
+    let Some(number) = step.edge else {
+        return Ok(());
+    };
+    match branch.edge(number) {
+        Some(edge) => need_edge(problem, branch, desk, edge, number),
+        None => Ok(()),
     }
 }
 
-/// Takes in hand the cycle of a path to `to`, and of an edge back. False where there is no path.
+/// Takes in hand the cycle of a path to an event, and of an edge back. False where there is no path.
 fn take_cycle(
     problem: &Problem,
     branch: &Branch,
     desk: &mut Desk,
     edges: Edges,
     to: usize,
-) -> bool {
-    if !find(problem, branch, &mut desk.paths, edges, to) {
-        return false;
+) -> Result<bool, NoMemory> {
+    if !desk.paths.find(problem, branch, edges, to)? {
+        return Ok(false);
     }
-    reset(&mut desk.trial, Closing::Cycle(edges.relations));
-    for i in (0..desk.paths.path.len()).rev() {
-        let step = desk.paths.path.at(i);
-        desk.trial.cycle.push(step.from);
-        if step.edge != NONE {
-            need_edge(problem, branch, desk, branch.edges.at(step.edge), step.edge);
-        }
+    desk.trial.reset(Closing::Cycle(edges.relations));
+    for place in (0..desk.paths.path.len()).rev() {
+        let Some(step) = desk.paths.path.get(place).copied() else {
+            break;
+        };
+        desk.trial.show(step.from)?;
+        need_step(problem, branch, desk, step)?;
     }
-    desk.trial.cycle.push(to);
-    true
+    desk.trial.show(to)?;
+    Ok(true)
 }
 
 /// Takes in hand the cycle of a path from one event to another one, and of an edge back.
+///
+/// Errors: out of memory only.
 pub fn take_path(
     problem: &Problem,
     branch: &Branch,
@@ -117,20 +111,37 @@ pub fn take_path(
     edges: Edges,
     from: usize,
     to: usize,
-) -> bool {
-    begin(&mut desk.paths);
-    start_from(&mut desk.paths, from);
+) -> Result<bool, NoMemory> {
+    desk.paths.begin();
+    desk.paths.start_from(from)?;
     take_cycle(problem, branch, desk, edges, to)
 }
 
-/// Makes the leaf in hand one of a write between two parts, and offers it.
-fn offer_write_between(problem: &Problem, desk: &mut Desk, r: usize, v: usize) {
-    desk.trial.closing = Closing::Between;
-    desk.trial.cycle.cut(0);
-    desk.trial.cycle.push(r);
-    desk.trial.cycle.push(v);
-    desk.trial.cycle.push(problem.events.at(r).partner);
-    offer(desk);
+/// Shows the order of a write and of the first event of the cycle in hand, which comes later.
+fn show_order_to_cycle(
+    problem: &Problem,
+    branch: &Branch,
+    desk: &mut Desk,
+    write: usize,
+    limit: usize,
+) -> Result<(), NoMemory> {
+    match desk.trial.cycle.first().copied() {
+        Some(first) => show_order(problem, branch, desk, write, first, limit),
+        None => Ok(()),
+    }
+}
+
+/// Offers what is asked as a reason, where that is false by what is known.
+fn offer_falsity(
+    problem: &Problem,
+    branch: &mut Branch,
+    desk: &mut Desk,
+    known: Known,
+) -> Result<(), NoMemory> {
+    if need_falsity(problem, branch, known, &mut desk.trial)? {
+        desk.offer();
+    }
+    Ok(())
 }
 
 /// Offers the reasons by the order of one relation why a read can't have a source: it is before the source, or after a write that is
@@ -140,76 +151,102 @@ fn offer_orders(
     branch: &Branch,
     desk: &mut Desk,
     edges: Edges,
-    r: usize,
-    s: usize,
-) {
-    let core = problem.events.at(r).core;
+    read: usize,
+    source: usize,
+) -> Result<(), NoMemory> {
+    let core = problem.event(read).core;
     let is_edge = matches!(edges.relations, Relations::OnLocation)
-        | !problem.events_of.has(core, s);
-    let is_before = is_edge & branch.is_known(edges.relations, r, s);
-    if is_before && take_path(problem, branch, desk, edges, r, s) {
-        offer(desk);
+        | !problem.events_of.has(core, source);
+    let is_before = is_edge & branch.is_known(edges.relations, read, source);
+    if is_before && take_path(problem, branch, desk, edges, read, source)? {
+        desk.offer();
     }
-    start_from_later(problem, branch, &mut desk.paths, s, edges.limit);
-    if take_cycle(problem, branch, desk, edges, r) {
-        let first = desk.trial.cycle.at(0);
-        show_order(problem, branch, desk, s, first, edges.limit);
-        offer(desk);
+    desk.paths
+        .start_from_later(problem, branch, source, edges.limit)?;
+    if take_cycle(problem, branch, desk, edges, read)? {
+        show_order_to_cycle(problem, branch, desk, source, edges.limit)?;
+        desk.offer();
     }
+    Ok(())
+}
+
+/// Starts from the writes of other cores that come after a source, and before the store part of a load part.
+fn start_between(
+    problem: &Problem,
+    branch: &Branch,
+    desk: &mut Desk,
+    store: usize,
+) -> Result<(), NoMemory> {
+    let core = problem.event(store).core;
+    desk.paths.begin();
+    for write in problem.locations..problem.size {
+        if desk.inner.is_start(write)
+            & (problem.event(write).core != core)
+            & branch.is_known(Relations::Coherence, write, store)
+        {
+            desk.paths.start_from(write)?;
+        }
+    }
+    Ok(())
+}
+
+/// Offers a write of another core that comes between the source of a load part and its store part.
+fn offer_parted(
+    problem: &Problem,
+    branch: &Branch,
+    desk: &mut Desk,
+    load: usize,
+    source: usize,
+    limit: usize,
+) -> Result<(), NoMemory> {
+    let Some(store) = problem.event(load).partner else {
+        return Ok(());
+    };
+    desk.inner.start_from_later(problem, branch, source, limit)?;
+    start_between(problem, branch, desk, store)?;
+    let edges = Edges {
+        relations: Relations::Coherence,
+        limit,
+    };
+    if !take_cycle(problem, branch, desk, edges, store)? {
+        return Ok(());
+    }
+    if let Some(between) = desk.trial.cycle.first().copied() {
+        show_order(problem, branch, desk, source, between, limit)?;
+        desk.offer_between(load, between, store);
+    }
+    Ok(())
 }
 
 /// Makes a tree for a source, where there is none, by the best reason why the read can't have it.
-pub fn close_source(problem: &Problem, branch: &mut Branch, desk: &mut Desk, r: usize, s: usize) {
-    if desk.branches.at(s) != NONE {
-        return;
+///
+/// Errors: out of memory only.
+pub fn close_source(
+    problem: &Problem,
+    branch: &mut Branch,
+    desk: &mut Desk,
+    read: usize,
+    source: usize,
+) -> Result<(), NoMemory> {
+    if desk.branches.at(source).is_some() {
+        return Ok(());
     }
-    let removed = branch.moment(problem, r, s);
+    let removed = branch.removal(problem, read, source);
     let limit = removed.edges;
     let known = Known {
-        read: r,
-        source: s,
-        limit: removed.facts,
-        ..NOTHING
+        facts: removed.facts,
+        supposed: Supposed::Source(read, source),
     };
-    reset(&mut desk.best, Closing::None);
-    if need_falsity(problem, branch, known, &mut desk.trial) {
-        offer(desk);
-    }
+    desk.best.reset(Closing::Nothing);
+    offer_falsity(problem, branch, desk, known)?;
     for relations in [Relations::OnLocation, Relations::Global] {
-        offer_orders(problem, branch, desk, Edges { relations, limit }, r, s);
+        let edges = Edges { relations, limit };
+        offer_orders(problem, branch, desk, edges, read, source)?;
     }
-    let Event {
-        core,
-        partner: own,
-        ..
-    } = problem.events.at(r);
-    if own != NONE {
-        // A write of another core may come between the source of the load part and its store part.
-        start_from_later(problem, branch, &mut desk.inner, s, limit);
-        begin(&mut desk.paths);
-        for x in problem.locations..problem.size {
-            if desk.inner.events.has(STARTS, x)
-                & (problem.events.at(x).core != core)
-                & branch.is_known(Relations::Coherence, x, own)
-            {
-                start_from(&mut desk.paths, x);
-            }
-        }
-        let relations = Relations::Coherence;
-        if take_cycle(problem, branch, desk, Edges { relations, limit }, own) {
-            let x = desk.trial.cycle.at(0);
-            show_order(problem, branch, desk, s, x, limit);
-            offer_write_between(problem, desk, r, x);
-        }
-    }
-    let nothing = Turned {
-        first: NONE,
-        second: NONE,
-        fact: NONE,
-        edges: limit,
-    };
-    let tree = add_best(problem, branch, desk, s, nothing);
-    desk.branches.put(s, tree);
+    offer_parted(problem, branch, desk, read, source, limit)?;
+    let tree = add_best(problem, branch, desk, Some(source), None, limit)?;
+    desk.branches.put(source, Some(tree));
+    Ok(())
 }
 
 /// Offers a cycle of each relation: the path from the first one of two writes to an event, and the edge back, which a fact tells, or which
@@ -220,83 +257,127 @@ fn offer_paths(
     desk: &mut Desk,
     turned: Turned,
     to: usize,
-    fact: usize,
-) {
+    fact: Option<usize>,
+) -> Result<(), NoMemory> {
     for relations in [Relations::OnLocation, Relations::Global] {
-        let limit = turned.edges;
-        let edges = Edges { relations, limit };
-        if take_path(problem, branch, desk, edges, turned.first, to) {
-            need(&mut desk.trial, fact);
-            offer(desk);
+        let edges = Edges {
+            relations,
+            limit: turned.edges,
+        };
+        if take_path(problem, branch, desk, edges, turned.first, to)? {
+            desk.trial.need_any(fact)?;
+            desk.offer();
         }
     }
+    Ok(())
 }
 
 /// The tree where the order that a fact tells is turned, by the best reason why it can't be.
+///
+/// Errors: out of memory only.
 pub fn add_other(
     problem: &Problem,
     branch: &mut Branch,
     desk: &mut Desk,
-    first: usize,
-    second: usize,
-    fact: usize,
-) -> usize {
-    let turned = Turned {
-        first,
-        second,
-        fact,
-        edges: branch.facts.at(fact).edges,
-    };
-    let loc = problem.events.at(first).location;
-    reset(&mut desk.best, Closing::None);
-    offer_paths(problem, branch, desk, turned, second, NONE);
-    if problem.parts_on.at(loc) != NONE {
+    turned: Turned,
+) -> Result<usize, NoMemory> {
+    let location = problem.event(turned.first).location;
+    desk.best.reset(Closing::Nothing);
+    offer_paths(problem, branch, desk, turned, turned.second, None)?;
+    if problem.parts_on.at(location).is_some() {
         let known = Known {
-            first: second,
-            limit: fact,
-            ..NOTHING
+            facts: turned.fact,
+            supposed: Supposed::Overwritten(turned.second),
         };
-        if need_falsity(problem, branch, known, &mut desk.trial) {
-            offer(desk);
+        offer_falsity(problem, branch, desk, known)?;
+    }
+    for read in problem.locations..problem.size {
+        if problem.event(read).location != location {
+            continue;
+        }
+        if let Some(fact) = branch.source.at(read) {
+            if fact < turned.fact {
+                offer_read(problem, branch, desk, turned, read, fact)?;
+            }
         }
     }
-    for r in problem.locations..problem.size {
-        if (branch.source.at(r) < fact) & (problem.events.at(r).location == loc) {
-            offer_read(problem, branch, desk, turned, r);
-        }
-    }
-    let s = branch.source_of(desk.best.cycle.at(0));
-    add_best(problem, branch, desk, s, turned)
+    add_best(problem, branch, desk, None, Some(turned), turned.edges)
 }
 
-/// Offers the reasons by a read of their location why an order can't be turned: it is before the second one then; or one of the two
-/// would come between the parts of a locked instruction, by an order of two writes that is known.
-fn offer_read(problem: &Problem, branch: &Branch, desk: &mut Desk, turned: Turned, r: usize) {
-    let (a, b) = (turned.first, turned.second);
-    let own = problem.events.at(r).partner;
-    let s = branch.source_of(r);
+/// A write that would come between the parts of a locked instruction, by an order of two writes.
+#[derive(Clone, Copy)]
+struct Gap {
+    load: usize,
+    between: usize,
+    store: usize,
+    first: usize,
+    second: usize,
+}
+
+/// Which of two writes would come between the parts of a locked instruction that is or reads one of them, where their order is turned.
+fn gap_of(problem: &Problem, turned: Turned, load: usize, source: usize) -> Option<Gap> {
+    let store = problem.event(load).partner?;
+    if (source == turned.second) & (store != turned.first) {
+        Some(Gap {
+            load,
+            between: turned.first,
+            store,
+            first: turned.first,
+            second: store,
+        })
+    } else if (source != turned.second) & (store == turned.first) {
+        Some(Gap {
+            load,
+            between: turned.second,
+            store,
+            first: source,
+            second: turned.second,
+        })
+    } else {
+        None
+    }
+}
+
+/// Offers a write between two parts, where it is another core's, and where the order is known.
+fn offer_gap(
+    problem: &Problem,
+    branch: &Branch,
+    desk: &mut Desk,
+    gap: Gap,
+    limit: usize,
+    fact: usize,
+) -> Result<(), NoMemory> {
+    let is_barred = branch.is_known(Relations::Coherence, gap.first, gap.second)
+        & (problem.event(gap.between).core != problem.event(gap.load).core);
     let edges = Edges {
         relations: Relations::Coherence,
-        limit: turned.edges,
+        limit,
     };
-    let mut from = s;
-    let mut to = b;
-    let mut between = b;
-    let mut is_parted = own == a;
-    if s == b {
-        // b before a: r is before a
-        offer_paths(problem, branch, desk, turned, r, branch.source.at(r));
-        from = a;
-        to = own;
-        between = a;
-        is_parted = own != a;
+    if is_barred && take_path(problem, branch, desk, edges, gap.first, gap.second)? {
+        desk.trial.need(fact)?;
+        desk.offer_between(gap.load, gap.between, gap.store);
     }
-    let is_barred = is_parted
-        & (own != NONE)
-        & branch.is_known(Relations::Coherence, from, to)
-        & (problem.events.at(between).core != problem.events.at(r).core);
-    if is_barred && take_path(problem, branch, desk, edges, from, to) {
-        need(&mut desk.trial, branch.source.at(r));
-        offer_write_between(problem, desk, r, between);
+    Ok(())
+}
+
+/// Offers the reasons by a read of their location, whose source this fact tells, why an order can't be turned: the read is before the
+/// second one then; or one of the two would come between the parts of a locked instruction, by an order of two writes that is known.
+fn offer_read(
+    problem: &Problem,
+    branch: &Branch,
+    desk: &mut Desk,
+    turned: Turned,
+    read: usize,
+    fact: usize,
+) -> Result<(), NoMemory> {
+    let Some(source) = branch.source_of(read) else {
+        return Ok(());
+    };
+    if source == turned.second {
+        offer_paths(problem, branch, desk, turned, read, Some(fact))?;
+    }
+    match gap_of(problem, turned, read, source) {
+        Some(gap) => offer_gap(problem, branch, desk, gap, turned.edges, fact),
+        None => Ok(()),
     }
 }

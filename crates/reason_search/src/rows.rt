@@ -1,7 +1,9 @@
 //! Rows of bits: each row is a set of small numbers.
+ghost use Rattle.std.specs.Iterator.{at_most};
 
 use crate::lists::{List, NONE};
 use std::alloc::Global;
+use tso_terms::NoMemory;
 
 /// Rows of bits, all of so many words.
 #[derive(Drop)]
@@ -11,14 +13,43 @@ pub struct Rows {
 }
 
 /// The word in which a number's bit is alone.
-pub fn bit(i: usize) -> u64 {
-    1u64 << (i % 64)
+pub fn bit(number: usize) -> u64 {
+    1u64 << (number % 64)
 }
 
-/// The lowest number of a word that isn't empty, where the word is the `k`-th of its row.
-pub fn lowest(k: usize, bits: u64) -> usize {
-    k.wrapping_mul(64)
+/// The lowest number of a word that isn't empty, where `word` is its place in its row.
+pub fn lowest(word: usize, bits: u64) -> usize {
+    word.wrapping_mul(64)
         .wrapping_add(bits.trailing_zeros() as usize)
+}
+
+/// The numbers of a word of a row, the lowest one first.
+#[derive(Drop)]
+pub struct Numbers {
+    word: usize,
+    bits: u64,
+}
+
+impl Numbers {
+    /// The numbers that these bits are, where `word` is the word's place in its row.
+    pub fn of(word: usize, bits: u64) -> Numbers {
+        Numbers { word, bits }
+    }
+}
+
+impl Iterator for Numbers {
+    type Item = usize;
+
+    ghost remaining = { λ s. at_most s.bits };
+
+    fn next(&mut self) -> Option<usize> {
+        if self.bits == 0 {
+            return None;
+        }
+        let number = lowest(self.word, self.bits);
+        self.bits &= self.bits - 1;
+        Some(number)
+    }
 }
 
 impl Rows {
@@ -31,76 +62,102 @@ impl Rows {
         }
     }
 
+    /// So many empty rows for numbers below `most`.
+    ///
+    /// Errors: out of memory only.
+    pub fn empty(alloc: Global, count: usize, most: usize) -> Result<Rows, NoMemory> {
+        let width = most / 64 + 1;
+        Ok(Rows {
+            words: List::filled(alloc, count.wrapping_mul(width), 0)?,
+            width,
+        })
+    }
+
     /// A word of a row, and no bits where there is no such row.
-    pub fn word(&self, row: usize, k: usize) -> u64 {
-        self.words.at(row.wrapping_mul(self.width).wrapping_add(k))
+    pub fn word(&self, row: usize, word: usize) -> u64 {
+        self.words
+            .at(row.wrapping_mul(self.width).wrapping_add(word))
     }
 
     /// Writes a word of a row.
-    pub fn put_word(&mut self, row: usize, k: usize, bits: u64) {
-        let place = row.wrapping_mul(self.width).wrapping_add(k);
+    pub fn put_word(&mut self, row: usize, word: usize, bits: u64) {
+        let place = row.wrapping_mul(self.width).wrapping_add(word);
         self.words.put(place, bits);
     }
 
     /// Whether a row has the number.
-    pub fn has(&self, row: usize, i: usize) -> bool {
-        self.word(row, i / 64) & bit(i) != 0
+    pub fn has(&self, row: usize, number: usize) -> bool {
+        self.word(row, number / 64) & bit(number) != 0
     }
 
     /// Adds a number to a row.
-    pub fn add(&mut self, row: usize, i: usize) {
-        self.put_word(row, i / 64, self.word(row, i / 64) | bit(i));
+    pub fn add(&mut self, row: usize, number: usize) {
+        let bits = self.word(row, number / 64) | bit(number);
+        self.put_word(row, number / 64, bits);
     }
 
     /// Takes a number out of a row.
-    pub fn remove(&mut self, row: usize, i: usize) {
-        self.put_word(row, i / 64, self.word(row, i / 64) & !bit(i));
+    pub fn remove(&mut self, row: usize, number: usize) {
+        let bits = self.word(row, number / 64) & !bit(number);
+        self.put_word(row, number / 64, bits);
     }
 
     /// How many numbers a row has.
     pub fn count(&self, row: usize) -> usize {
         let mut sum = 0usize;
-        for k in 0..self.width {
-            sum = sum.wrapping_add(self.word(row, k).count_ones() as usize);
+        for word in 0..self.width {
+            sum = sum.wrapping_add(self.word(row, word).count_ones() as usize);
         }
         sum
     }
 
-    /// The lowest number of a row from this one on, and `NONE` where it has none.
-    pub fn next(&self, row: usize, from: usize) -> usize {
+    /// The lowest number of a row from this one on.
+    pub fn first_from(&self, row: usize, from: usize) -> Option<usize> {
         let start = from / 64;
-        for k in start..self.width {
-            let all = self.word(row, k);
-            let bits = if k == start {
+        for word in start..self.width {
+            let all = self.word(row, word);
+            let bits = if word == start {
                 all & !bit(from).wrapping_sub(1)
             } else {
                 all
             };
             if bits != 0 {
-                return lowest(k, bits);
+                return Some(lowest(word, bits));
             }
         }
-        NONE
+        None
+    }
+
+    /// The lowest number of a row from this one on, and `NONE` where it has none.
+    pub fn next(&self, row: usize, from: usize) -> usize {
+        self.first_from(row, from).unwrap_or(NONE)
+    }
+
+    /// Whether a row has no number.
+    pub fn is_empty(&self, row: usize) -> bool {
+        self.first_from(row, 0).is_none()
     }
 
     /// Makes a row empty.
     pub fn clear(&mut self, row: usize) {
-        for k in 0..self.width {
-            self.put_word(row, k, 0);
+        for word in 0..self.width {
+            self.put_word(row, word, 0);
         }
     }
 
     /// Adds to a row all of another one.
     pub fn join_own(&mut self, row: usize, other: usize) {
-        for k in 0..self.width {
-            self.put_word(row, k, self.word(row, k) | self.word(other, k));
+        for word in 0..self.width {
+            let bits = self.word(row, word) | self.word(other, word);
+            self.put_word(row, word, bits);
         }
     }
 
     /// Adds to a row all of a row of others.
     pub fn join(&mut self, row: usize, others: &Rows, other: usize) {
-        for k in 0..self.width {
-            self.put_word(row, k, self.word(row, k) | others.word(other, k));
+        for word in 0..self.width {
+            let bits = self.word(row, word) | others.word(other, word);
+            self.put_word(row, word, bits);
         }
     }
 }

@@ -2,6 +2,7 @@
 
 use crate::lists::List;
 use std::alloc::Global;
+use tso_terms::NoMemory;
 
 /// How often each event stood in a question that was needed, of late more.
 #[derive(Drop)]
@@ -15,18 +16,20 @@ pub struct Weights {
 
 impl Weights {
     /// No event stood in one.
-    pub fn new(alloc: Global, size: usize) -> Weights {
-        Weights {
-            of: List::new(alloc, size, 0),
+    ///
+    /// Errors: out of memory only.
+    pub fn new(alloc: Global, size: usize) -> Result<Weights, NoMemory> {
+        Ok(Weights {
+            of: List::filled(alloc, size, 0)?,
             most: 0,
             step: 1024,
-        }
+        })
     }
 
     /// An event stood in a question that was needed.
-    pub fn heed(&mut self, a: usize) {
-        let weight = self.of.at(a).wrapping_add(self.step);
-        self.of.put(a, weight);
+    pub fn heed(&mut self, event: usize) {
+        let weight = self.of.at(event).wrapping_add(self.step);
+        self.of.put(event, weight);
         self.most = self.most.max(weight);
     }
 
@@ -36,9 +39,9 @@ impl Weights {
         if self.step > 1_099_511_627_776 {
             self.step /= 1_073_741_824;
             self.most /= 1_073_741_824;
-            for a in 0..self.of.len() {
-                let weight = self.of.at(a) / 1_073_741_824;
-                self.of.put(a, weight);
+            for event in 0..self.of.len() {
+                let weight = self.of.at(event) / 1_073_741_824;
+                self.of.put(event, weight);
             }
         }
     }

@@ -3,8 +3,8 @@ use Rattle.refutation_checker.proofs.Vocabulary.{◌≡◌, List, [], ◌∷◌,
 use Rattle.refutation_checker.proofs.Vocabulary.{◌<◌, ◌≤◌, ℕ, suc, arith, ◌+◌, ◌==◌, ◌&&◌, Bool, true, false, length, get_or, drop, sym}
 use Rattle.refutation_checker.proofs.Vocabulary.{at_drop_more, at_drop_all, nat_tests, Litmus, Model, node_of}
 use Rattle.possible_reads.specs.Facts as spec
-use Rattle.short_refutations.specs.Refutations as refutations
-use Rattle.short_refutations.specs.Refutations.{Lemma, is_node, known_from, answers, close, hold}
+use Rattle.lemma_refutations.specs.Refutations as refutations
+use Rattle.lemma_refutations.specs.Refutations.{Lemma, is_node, known_from, answers, close, hold}
 use Rattle.refutation_checker.specs.declared.tree.Lemma as code
 use Rattle.refutation_checker.specs.Trees.{lemma_of}
 use Rattle.std.proofs.Common.{take}

@@ -6,13 +6,13 @@ pub use Rattle.refutations.proofs.Vocabulary.{nat_tests, Litmus, Entry, is_event
 pub use Rattle.refutations.proofs.Vocabulary.{events_of}
 pub use Rattle.refutation_laws.specs.declared.model.Relation.{Relation}
 pub use Rattle.refutation_laws.specs.declared.model.Model.{Model}
-pub use Rattle.short_refutations.specs.Edges.{Knowledge, overwrites, relates, is_edge}
-pub use Rattle.short_refutations.specs.Shown.{first_that_relates}
+pub use Rattle.lemma_refutations.specs.Edges.{Knowledge, overwrites, relates, is_edge}
+pub use Rattle.lemma_refutations.specs.Shown.{first_that_relates}
 pub use Rattle.reading_tables.specs.Told.{facts_of, fact_of}
 pub use Rattle.reading_tables.specs.inner.Told.{known_of}
 pub use Rattle.reading_tables.specs.inner.Tables.{readings_of, IsTold}
 pub use Rattle.refutation_checker.specs.inner.Branches.{knowledge_of}
-pub use Rattle.short_refutations.specs.Refutations.{is_impossible, is_known, allows}
+pub use Rattle.lemma_refutations.specs.Refutations.{is_impossible, is_known, allows}
 pub use Rattle.possible_reads.specs.Possible.{can_be_last, same_source}
 pub use Rattle.refutation_laws.specs.Known.{same_event}
 pub use Rattle.refutation_checker.specs.inner.Stack.{branches_of}

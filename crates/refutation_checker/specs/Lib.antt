@@ -1,5 +1,5 @@
 pub mod Trees
 pub mod inner
-pub use Rattle.short_refutations.specs.Edges
-pub use Rattle.short_refutations.specs.Refutations
-pub use Rattle.short_refutations.specs.Shown
+pub use Rattle.lemma_refutations.specs.Edges
+pub use Rattle.lemma_refutations.specs.Refutations
+pub use Rattle.lemma_refutations.specs.Shown

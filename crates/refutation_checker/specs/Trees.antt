@@ -4,7 +4,7 @@ use Rattle.reading_tables.specs.Told.{facts_of}
 use Rattle.refutation_checker.specs.declared.tree.Node.{Node}
 use Rattle.refutation_checker.specs.declared.tree.Node.TheVariants as code
 use Rattle.refutation_checker.specs.declared.tree.Lemma.{Lemma}
-use Rattle.short_refutations.specs.Refutations as spec
+use Rattle.lemma_refutations.specs.Refutations as spec
 use Rattle.reading_tables.specs.Told.{fact_of}
 
 abbrev pub node_of : Node → spec.Node

@@ -7,7 +7,7 @@ ghost use Rattle.possible_reads.specs.Possible.{last_writes};
 ghost use Rattle.reading_tables.specs.Told.{fact_of, facts_of};
 ghost use Rattle.reading_tables.specs.inner.Told.{held_of, all_made, known_of};
 ghost use Rattle.reading_tables.specs.inner.Tables.{IsProblem, IsTold, readings_of};
-ghost use Rattle.short_refutations.specs.Refutations as spec;
+ghost use Rattle.lemma_refutations.specs.Refutations as spec;
 ghost use Rattle.refutation_checker.specs.inner.Branches.{IsCase, knowledge_of};
 ghost use Rattle.refutation_checker.specs.Trees.{node_of};
 ghost use Rattle.refutation_checker.specs.inner.Stack.{branches_of};

@@ -1,11 +1,11 @@
-//! Whether lemmas and a list of nodes are a short refutation of what a test asks.
+//! Whether lemmas and a list of nodes are a refutation by lemmas of what a test asks.
 ghost use Rattle.std.specs.Prelude.{◌≡◌, ◌∷◌, ◌++◌, IfOk, [], map, true};
 ghost use Rattle.tso_terms.specs.Condition.{TruthClaim, claim_of};
 ghost use Rattle.refutation_laws.specs.Refutations.{asked_claim};
 ghost use Rattle.possible_reads.specs.Facts.{given_by};
 ghost use Rattle.reading_tables.specs.Told.{facts_of};
 ghost use Rattle.reading_tables.specs.inner.Tables.{IsProblem};
-ghost use Rattle.short_refutations.specs.Refutations as spec;
+ghost use Rattle.lemma_refutations.specs.Refutations as spec;
 ghost use Rattle.refutation_checker.specs.Trees.{lemma_of, node_of};
 ghost use Rattle.refutation_checker.specs.inner.Stack.{branches_of};
 
@@ -142,7 +142,7 @@ pub fn asked_facts<'t>(
     Ok(facts)
 }
 
-/// Whether these lemmas and nodes are a short refutation of what the test asks.
+/// Whether these lemmas and nodes are a refutation by lemmas of what the test asks.
 ///
 /// Errors: out of memory only.
 pub fn refutes(

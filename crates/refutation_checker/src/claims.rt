@@ -6,7 +6,7 @@ ghost use Rattle.reading_tables.specs.Told.{fact_of, facts_of};
 ghost use Rattle.reading_tables.specs.inner.Tables.{IsTold, readings_of};
 ghost use Rattle.possible_reads.specs.Possible.{last_writes};
 ghost use Rattle.refutation_laws.specs.Known as known;
-ghost use Rattle.short_refutations.specs.Refutations as spec;
+ghost use Rattle.lemma_refutations.specs.Refutations as spec;
 ghost use Rattle.possible_reads.specs.Facts.{Before, Last, Returns};
 ghost use Rattle.refutation_checker.specs.Trees.{lemma_of};
 ghost use Rattle.refutation_checker.specs.inner.Branches.{IsCase, knowledge_of};

@@ -5,8 +5,8 @@ ghost use Rattle.refutation_laws.specs.Edges as edges;
 ghost use Rattle.refutation_laws.specs.Refutations.{sources_of};
 ghost use Rattle.refutation_laws.specs.declared.model.Relation.TheVariants.{Mfence};
 ghost use Rattle.refutations.specs.inner.Trees.{relations_of};
-ghost use Rattle.short_refutations.specs.Edges as spec;
-ghost use Rattle.short_refutations.specs.Shown as shown;
+ghost use Rattle.lemma_refutations.specs.Edges as spec;
+ghost use Rattle.lemma_refutations.specs.Shown as shown;
 ghost use Rattle.reading_tables.specs.inner.Tables.{IsTold};
 ghost use Rattle.refutation_checker.specs.inner.Branches.{knowledge_of};
 

@@ -1,5 +1,5 @@
-//! Whether lemmas and a list of nodes are a short refutation of what a test asks: the checker, which computes exactly the definition
-//! `refutes` of `short_refutations`.
+//! Whether lemmas and a list of nodes are a refutation by lemmas of what a test asks: the checker, which computes exactly the definition
+//! `refutes` of `lemma_refutations`.
 //!
 //! Sources: Alglave, Maranget and Tautschnig, "Herding Cats" (2014), for candidates and relations;
 //! herd's `x86tso.cat` for the conditions.

@@ -1,10 +1,10 @@
-//! Where a node of a short refutation may stand.
+//! Where a node of a refutation by lemmas may stand.
 ghost use Rattle.std.specs.Prelude.{◌≡◌, IfOk, map, slice_get};
 ghost use Rattle.std.specs.List.{list_all};
 ghost use Rattle.possible_reads.specs.Possible.{values_read};
 ghost use Rattle.reading_tables.specs.Told.{fact_of, facts_of};
 ghost use Rattle.reading_tables.specs.inner.Tables.{IsTold, readings_of};
-ghost use Rattle.short_refutations.specs.Refutations as spec;
+ghost use Rattle.lemma_refutations.specs.Refutations as spec;
 ghost use Rattle.refutation_checker.specs.Trees.{lemma_of, node_of};
 ghost use Rattle.refutation_checker.specs.inner.Branches.{IsCase, knowledge_of};
 ghost use Rattle.refutation_checker.specs.inner.Readers.{is_locked_write};

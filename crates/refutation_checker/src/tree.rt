@@ -1,9 +1,9 @@
-//! The nodes of a short refutation, and lemmas.
+//! The nodes of a refutation by lemmas, and lemmas.
 
 use reading_tables::facts::Fact;
 use tso_terms::{Entry, Loc};
 
-/// A node of a short refutation. A tree is the list of its nodes: each comes before its branches, and the first branch first.
+/// A node of a refutation by lemmas. A tree is the list of its nodes: each comes before its branches, and the first branch first.
 pub enum Node<'t> {
     /// A question: what does this read read from?
     ReadsFrom(Entry),

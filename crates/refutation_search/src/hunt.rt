@@ -76,12 +76,6 @@ pub struct Hunt {
     pub is_short: bool,
 }
 
-/// How many looks are so much work.
-fn affordable(setting: &Setting<'_>, work: usize) -> usize {
-    let size = setting.size.max(16);
-    work / size.saturating_mul(size).max(1)
-}
-
 /// A search that has nothing yet, and may look at so many cases.
 pub fn make_hunt(alloc: Global, setting: &Setting<'_>, limit: usize) -> Hunt {
     let mut root = first_state(alloc, setting);
@@ -96,8 +90,10 @@ pub fn make_hunt(alloc: Global, setting: &Setting<'_>, limit: usize) -> Hunt {
         trees: Trees::none(alloc),
         lemmas: Lemmas::none(alloc),
         cases: 0,
-        most_looks: affordable(setting, MOST_WORK).min(MOST_LOOKS),
-        looks: affordable(setting, WHOLE_WORK).min(limit.saturating_mul(MOST_LOOKS)),
+        most_looks: setting.affordable(MOST_WORK, 2).min(MOST_LOOKS),
+        looks: setting
+            .affordable(WHOLE_WORK, 2)
+            .min(limit.saturating_mul(MOST_LOOKS)),
         is_short: false,
         root,
     }

@@ -1,4 +1,4 @@
-//! A search for a short refutation of what a test asks, or for an execution in which it is true: it proposes one, and what it proposes is
+//! A search for a refutation by lemmas of what a test asks, or for an execution in which it is true: it proposes one, and what it proposes is
 //! judged elsewhere. So its contracts say nothing but that it is safe and ends.
 #![tactic(auto)]
 
@@ -15,6 +15,7 @@ pub mod hunt;
 pub mod learner;
 pub mod learning;
 pub mod learnt_search;
+pub mod leasts;
 pub mod leaves;
 pub mod lemmas;
 pub mod lines;

@@ -150,9 +150,10 @@ fn tell<'t>(
 /// How many nodes are many: then questions of what a read reads from are made shorter.
 const MANY_NODES: usize = 2_000;
 
-/// Has questions made shorter, where there are many nodes.
+/// Has questions made shorter, where there are many nodes, or more than there may be.
 fn ask_on(sheet: &mut Sheet) -> bool {
-    let is_changed = (sheet.nodes.len() > MANY_NODES) & !sheet.asks_on;
+    let are_many = (sheet.nodes.len() > MANY_NODES) | (sheet.nodes.len() > sheet.most);
+    let is_changed = are_many & !sheet.asks_on;
     sheet.asks_on |= is_changed;
     is_changed
 }
@@ -174,11 +175,13 @@ pub fn propose<'t>(
     let mut sections = List::new(alloc, 0, NO_SECTION);
     let mut best = None;
     for _print in 0..MOST_PRINTS {
-        if !print_all(setting, problem, hunt, &mut sheet, &mut sections, node) {
-            break;
-        }
-        best = Some(tell(alloc, setting, hunt, &sheet, &sections)?);
-        let is_other = put_inside(&mut sheet);
+        let is_printed = print_all(setting, problem, hunt, &mut sheet, &mut sections, node);
+        let is_other = if is_printed {
+            best = Some(tell(alloc, setting, hunt, &sheet, &sections)?);
+            put_inside(&mut sheet)
+        } else {
+            false
+        };
         if !(is_other | ask_on(&mut sheet)) {
             break;
         }

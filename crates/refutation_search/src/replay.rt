@@ -40,6 +40,25 @@ const NO_BRANCH: Branch = Branch {
     limit: 0,
 };
 
+/// How much work it may be to check and print what is found; and how many nodes there may be however great a test is, and however small.
+const MOST_CHECKING: usize = 130_000_000;
+
+const FEW_NODES: usize = 20;
+
+const MOST_NODES: usize = 20_000;
+
+/// How many nodes there may be, where each costs as much as all reads have sources, times the number of events.
+fn most_nodes(setting: &Setting<'_>) -> usize {
+    let mut sources = 0usize;
+    for x in 0..setting.locations {
+        let writes = setting.writes_to.count(x).wrapping_add(1);
+        let all = setting.readers_of.count(x).wrapping_mul(writes);
+        sources = sources.wrapping_add(all);
+    }
+    let cost = sources.wrapping_mul(setting.size);
+    (MOST_CHECKING / cost.max(1)).max(FEW_NODES).min(MOST_NODES)
+}
+
 /// What is printed: nodes, the events of their cycles; and how often each lemma is used.
 #[derive(Drop)]
 pub struct Sheet {
@@ -50,6 +69,8 @@ pub struct Sheet {
     pub is_inside: List<bool>,
     /// Whether questions of what a read reads from are made shorter.
     pub asks_on: bool,
+    /// How many nodes there may be.
+    pub most: usize,
     open: List<Branch>,
     levels: Vec<State>,
     trial: State,
@@ -66,6 +87,7 @@ impl Sheet {
             uses: List::new(alloc, count, 0),
             is_inside: List::new(alloc, count, false),
             asks_on: false,
+            most: most_nodes(setting),
             open: List::new(alloc, 0, NO_BRANCH),
             levels: Vec::new(alloc),
             trial: empty_state(alloc, setting),
@@ -326,7 +348,7 @@ pub fn print_part(
     add_all(setting, &mut sheet.trial, facts);
     let mut is_printed = print_first(setting, problem, sheet, source, node);
     for _branch in 0..u64::MAX {
-        if !is_printed | (sheet.nodes.len() > 100_000) {
+        if !is_printed | (sheet.nodes.len() > sheet.most) {
             return false;
         }
         let branch = sheet.open.pop();

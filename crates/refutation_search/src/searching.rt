@@ -41,9 +41,9 @@ const STEPS_FOR_CASE: usize = 20_000;
 
 const MOST_STEPS: usize = 2_000_000;
 
-/// How much work the search over sources and orders alone may be, where each case costs the square of the number of events; and how many
+/// How much work the search over sources and orders alone may be, where each case costs the cube of the number of events; and how many
 /// cases it looks at only for a shorter refutation.
-const MOST_WORK: usize = 30_000_000;
+const MOST_WORK: usize = 800_000_000;
 
 const FEW_CASES: usize = 4_000;
 
@@ -158,9 +158,9 @@ fn borrow<'t>(
     model: Model,
     limit: usize,
 ) -> Result<Proposed<'t>, NoMemory> {
-    let size = setting.size.max(16);
-    let most = MOST_WORK / size.saturating_mul(size).max(1);
-    let mut guide = make_guide_within(alloc, problem.test, &problem.events, model, limit.min(most));
+    let most = setting.affordable(MOST_WORK, 3);
+    let cases = limit.min(most);
+    let mut guide = make_guide_within(alloc, problem.test, &problem.events, model, cases)?;
     if let Some(execution) = proposed_order(alloc, &guide)? {
         return Ok(Proposed::Execution(execution));
     }
@@ -252,15 +252,27 @@ fn propose_reason<'t>(
         return shortened(alloc, setting, problem, model, &hunt, first, limit);
     }
     let back = ask_back(alloc, setting, problem, limit)?;
-    if !matches!(back, Proposed::Nothing) {
-        return or_borrowed(alloc, setting, problem, model, back, limit);
+    let found = or_learnt(alloc, setting, problem, &mut hunt, back, limit)?;
+    or_borrowed(alloc, setting, problem, model, found, limit)
+}
+
+/// What was found, or a shorter one that is learnt, or any where nothing was found.
+fn or_learnt<'t>(
+    alloc: Global,
+    setting: &Setting<'t>,
+    problem: &Problem<'t>,
+    hunt: &mut Hunt,
+    found: Proposed<'t>,
+    limit: usize,
+) -> Result<Proposed<'t>, NoMemory> {
+    match found {
+        Proposed::Refutation(best) if best.lines > MANY_LINES => {
+            let other = learn_long(alloc, setting, problem, hunt, limit)?;
+            Ok(Proposed::Refutation(shorter(best, other)))
+        }
+        Proposed::Nothing => learn_long(alloc, setting, problem, hunt, limit),
+        other => Ok(other),
     }
-    hunt.looks = hunt
-        .look
-        .made
-        .saturating_add(looks_to_learn(setting, limit));
-    let learnt = learn_long(alloc, setting, problem, &mut hunt)?;
-    or_borrowed(alloc, setting, problem, model, learnt, limit)
 }
 
 /// What was found, or a shorter one over sources and orders alone, or any over these where nothing was found.
@@ -284,12 +296,9 @@ fn or_borrowed<'t>(
 
 /// How many looks the search that learns may make.
 fn looks_to_learn(setting: &Setting<'_>, limit: usize) -> usize {
-    let size = setting.size.max(16);
-    let square = size.saturating_mul(size);
-    let work = square.saturating_mul(square).saturating_mul(size).max(1);
     limit
         .saturating_mul(LOOKS_FOR_CASE)
-        .min(MOST_LEARNING / work)
+        .min(setting.affordable(MOST_LEARNING, 5))
 }
 
 /// Learns, as long as looks are left: what is proposed by then.
@@ -298,7 +307,10 @@ fn learn_long<'t>(
     setting: &Setting<'t>,
     problem: &Problem<'t>,
     hunt: &mut Hunt,
+    limit: usize,
 ) -> Result<Proposed<'t>, NoMemory> {
+    let most = looks_to_learn(setting, limit);
+    hunt.looks = hunt.look.made.saturating_add(most);
     let mut learner = Learner::new(alloc, setting, &hunt.root);
     let found = search_learning(setting, hunt, &mut learner);
     if hunt.is_refused() | learner.is_refused() {
@@ -311,7 +323,7 @@ fn learn_long<'t>(
     }
 }
 
-/// Searches for an execution in which what a test asks is true, or a short refutation of it, for so many cases: what it proposes, if it
+/// Searches for an execution in which what a test asks is true, or a refutation by lemmas of it, for so many cases: what it proposes, if it
 /// finds one. Once it has a refutation, it looks a few times more for a shorter one.
 ///
 /// Errors: out of memory only.

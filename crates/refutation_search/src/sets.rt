@@ -69,6 +69,16 @@ impl Values {
         }
     }
 
+    /// The least value of a set; 0 where it has none.
+    pub fn least(&self, set: usize) -> u32 {
+        let count = self.count(set);
+        let mut least = if count == 0 { 0 } else { u32::MAX };
+        for i in 0..count {
+            least = least.min(self.value(set, i));
+        }
+        least
+    }
+
     /// A value of a set.
     pub fn value(&self, set: usize, i: usize) -> u32 {
         self.values.at(set.wrapping_mul(MOST).wrapping_add(i))

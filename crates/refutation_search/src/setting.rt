@@ -51,6 +51,8 @@ pub const LOCKED: usize = 0;
 pub const COUNTERS: usize = 1;
 /// The locations that what is asked names.
 pub const NAMED: usize = 2;
+/// The locations to which writes set or add numbers alone that together, with the first word, fit into a word.
+pub const GROWING: usize = 3;
 
 /// What a search works on.
 #[derive(Drop)]
@@ -66,7 +68,7 @@ pub struct Setting<'t> {
     pub terms: List<Term>,
     /// What instructions make.
     pub makings: List<Making>,
-    /// What each write to a counter adds.
+    /// What each store part adds that adds a number to what its own load part returns.
     pub addends: List<u32>,
     /// The writes to each location but the initial one, its reads, and its load parts of locked instructions.
     pub writes_to: Rows,
@@ -87,6 +89,9 @@ pub struct Setting<'t> {
     pub asked: bool,
 }
 
+/// What is done costs no less than with so many events.
+const FEWEST: usize = 16;
+
 /// How many instructions a program has at most, and more.
 const PLACES: usize = 256;
 
@@ -102,6 +107,15 @@ impl<'t> Setting<'t> {
         } else {
             first
         }
+    }
+
+    /// How often so much work pays for what costs the number of events to this power.
+    pub fn affordable(&self, work: usize, power: usize) -> usize {
+        let mut cost = 1usize;
+        for _factor in 0..power {
+            cost = cost.saturating_mul(self.size.max(FEWEST));
+        }
+        work / cost.max(1)
     }
 
     /// The first word of a location.
@@ -200,8 +214,11 @@ fn add_user(setting: &mut Setting<'_>, term: Term, w: usize) {
     }
 }
 
-/// What a write adds to what its own load part returns, if it adds a number.
+/// What a store part adds to what its own load part returns, if it adds a number.
 fn addend_of(setting: &Setting<'_>, w: usize) -> Option<u32> {
+    if !setting.events.at(w).is_locked {
+        return None;
+    }
     let Term::Made(number) = setting.terms.at(w) else {
         return None;
     };
@@ -218,7 +235,29 @@ fn addend_of(setting: &Setting<'_>, w: usize) -> Option<u32> {
     }
 }
 
-/// Notes the locations to which locked instructions alone write, and the counters among them.
+/// The number that a write writes, or that a store part adds, if it is one.
+fn written_number(setting: &Setting<'_>, w: usize) -> Option<u32> {
+    match setting.terms.at(w) {
+        Term::Number(value) => Some(value),
+        Term::Returned(_) | Term::Made(_) => addend_of(setting, w),
+    }
+}
+
+/// Whether writes to a location set or add numbers alone that together, with its first word, fit into a word.
+fn is_growing(setting: &Setting<'_>, x: usize) -> bool {
+    let mut sum = u64::from(setting.first_word(x));
+    for w in setting.locations..setting.size {
+        if setting.writes_to.has(x, w) {
+            match written_number(setting, w) {
+                Some(number) => sum = sum.wrapping_add(u64::from(number)),
+                None => return false,
+            }
+        }
+    }
+    sum <= u64::from(u32::MAX)
+}
+
+/// Notes the locations to which locked instructions alone write, the counters among them, and those to which numbers alone are set or added.
 fn add_sets(setting: &mut Setting<'_>) {
     for x in 0..setting.locations {
         let mut is_locked = setting.writes_to.next(x, 0) != NONE;
@@ -237,6 +276,9 @@ fn add_sets(setting: &mut Setting<'_>) {
         }
         if is_locked & is_counter {
             setting.sets.add(COUNTERS, x);
+        }
+        if is_growing(setting, x) {
+            setting.sets.add(GROWING, x);
         }
     }
 }
@@ -287,7 +329,7 @@ pub fn make_setting<'t>(alloc: Global, problem: &Problem<'t>, model: Model) -> S
         users_of: Rows::new(alloc, size, size),
         events_of: Rows::new(alloc, MOST_CORES, size),
         program: Rows::new(alloc, size.wrapping_mul(2), size),
-        sets: Rows::new(alloc, 3, locations),
+        sets: Rows::new(alloc, 4, locations),
         numbers: List::new(alloc, MOST_CORES.wrapping_mul(PLACES), NONE),
         parts: List::new(alloc, 0, NO_PART),
         given: List::new(alloc, 0, NO_FACT),

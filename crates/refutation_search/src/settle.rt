@@ -2,6 +2,7 @@
 
 use crate::counting::count_values;
 use crate::facts::Fact;
+use crate::leasts::{raise_least, returns_less};
 use crate::makings::find_term;
 use crate::sets::add_value;
 use crate::setting::{LOCKED, NAMED, Setting};
@@ -32,9 +33,9 @@ fn may_return(state: &State, r: usize, value: u32) -> bool {
     true
 }
 
-fn can_return(state: &State, r: usize, s: usize) -> bool {
+fn can_return(setting: &Setting<'_>, state: &State, r: usize, s: usize) -> bool {
     if state.values.is_any(s) {
-        return true;
+        return !returns_less(setting, state, r, s);
     }
     for i in 0..state.values.count(s) {
         if may_return(state, r, state.values.value(s, i)) {
@@ -52,7 +53,7 @@ fn limit_sources(setting: &Setting<'_>, state: &mut State, r: usize) {
         if s == NONE {
             break;
         }
-        if !can_return(state, r, s) {
+        if !can_return(setting, state, r, s) {
             remove_source(setting, state, r, s);
         }
         s = state.rows.next(row, s.wrapping_add(1));
@@ -239,6 +240,9 @@ fn settle_read(setting: &Setting<'_>, state: &mut State, r: usize) {
     }
     if take_new(setting, state, r) {
         tell_users(setting, state, r);
+    }
+    if raise_least(setting, state, r) {
+        tell_readers(setting, state, r.wrapping_add(1));
     }
     let count = state.count_sources(setting, r);
     state.is_closed |= (count == 0) | (state.values.counts.at(r) == 0);

@@ -2,6 +2,7 @@
 
 use crate::counting::SPARES;
 use crate::facts::{Fact, NO_FACT};
+use crate::leasts::{Least, NOTHING};
 use crate::makings::Term;
 use crate::parts::add_given;
 use crate::sets::{Values, add_value};
@@ -63,6 +64,8 @@ pub struct State {
     pub sets: Rows,
     /// What each event can read or write.
     pub values: Values,
+    /// The least that each read can return which can return any value.
+    pub leasts: List<Least>,
     pub facts: List<Fact>,
     /// What each part of what is asked can be.
     pub truths: List<Truth>,
@@ -84,6 +87,7 @@ pub fn empty_state(alloc: Global, setting: &Setting<'_>) -> State {
                 .wrapping_add(SPARES)
                 .wrapping_add(setting.makings.len()),
         ),
+        leasts: List::new(alloc, setting.size, NOTHING),
         facts: List::new(alloc, 0, NO_FACT),
         truths: List::new(alloc, setting.parts.len(), OPEN),
         is_closed: false,
@@ -98,6 +102,7 @@ impl State {
             | self.lasts.words.is_refused
             | self.sets.words.is_refused
             | self.values.is_refused()
+            | self.leasts.is_refused
             | self.facts.is_refused
             | self.truths.is_refused
     }
@@ -108,6 +113,9 @@ impl State {
         copy_rows(&mut self.lasts, &other.lasts);
         copy_rows(&mut self.sets, &other.sets);
         self.values.copy_from(&other.values);
+        if self.leasts.items.len() == other.leasts.items.len() {
+            self.leasts.items.copy_from_slice(&other.leasts.items);
+        }
         self.facts.cut(0);
         for fact in &other.facts.items {
             self.facts.push(*fact);

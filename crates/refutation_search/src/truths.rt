@@ -2,6 +2,7 @@
 
 use crate::counting::counted;
 use crate::facts::Fact;
+use crate::leasts::is_more;
 use crate::makings::{Term, find_term};
 use crate::parts::PartKind;
 use crate::sets::add_value;
@@ -58,10 +59,22 @@ fn may_be_word(setting: &Setting<'_>, state: &State, x: usize, word: u32) -> boo
     true
 }
 
+/// Whether facts say that the location has less at the end than this write can write.
+fn is_less_left(setting: &Setting<'_>, state: &State, x: usize, w: usize) -> bool {
+    for fact in &state.facts.items {
+        if let Some((value, true)) = told_word(setting, *fact, x) {
+            if is_more(setting, state, w, value) {
+                return true;
+            }
+        }
+    }
+    false
+}
+
 /// Whether the facts leave it possible that the location has at the end what this write writes.
 pub fn may_be_left(setting: &Setting<'_>, state: &State, x: usize, w: usize) -> bool {
     if state.values.is_any(w) {
-        return true;
+        return !is_less_left(setting, state, x, w);
     }
     for i in 0..state.values.count(w) {
         if may_be_word(setting, state, x, state.values.value(w, i)) {

@@ -119,7 +119,7 @@ fn fewest(
     low
 }
 
-/// Finds the steps that close it; false where all don't.
+/// Finds the steps that close it; false where all don't, or no looks are left.
 pub fn find_used(
     setting: &Setting<'_>,
     hunt: &mut Hunt,
@@ -135,6 +135,9 @@ pub fn find_used(
     }
     let mut most = closed.steps;
     for _step in 0..MOST_STEPS {
+        if hunt.look.made > hunt.looks {
+            return false;
+        }
         let last = fewest(setting, hunt, learner, closed, most).wrapping_sub(1);
         learner.sets.add(FOUND, last);
         most = last;

@@ -10,8 +10,8 @@ use Rattle.reading_tables.specs.declared.facts.Fact.{Fact}
 use Rattle.refutation_checker.specs.Trees.{node_of}
 use Rattle.refutation_checker.specs.declared.tree.Node.{Node}
 use Rattle.refutation_checker.specs.inner.Stack.{branches_of}
-use Rattle.short_refutations.specs.Refutations.{answers, known_from}
-use Rattle.short_refutations.specs.Refutations as refutations
+use Rattle.lemma_refutations.specs.Refutations.{answers, known_from}
+use Rattle.lemma_refutations.specs.Refutations as refutations
 use Rattle.search_report.specs.Lines as spec
 use Rattle.search_report.specs.inner.Standing.{branch_in, branch_of, stack_of}
 use Rattle.search_report.specs.declared.standing.Branch.{Branch}

@@ -16,8 +16,8 @@ use Rattle.possible_reads.specs.Facts.{Fact, From, Before, Last, Returns, Holds}
 use Rattle.possible_reads.specs.Expressions.{Constant, first_registers, registers_at_end}
 use Rattle.possible_reads.specs.Possible.{Values, both_of, can_be, fits_word, is_among, kept, last_words, may_be_left, same_number}
 use Rattle.possible_reads.specs.Possible.{told_word, values_of, values_read, words_left}
-use Rattle.short_refutations.specs.Edges.{Knowledge}
-use Rattle.short_refutations.specs.Refutations.{allows, is_impossible, known_from}
+use Rattle.lemma_refutations.specs.Edges.{Knowledge}
+use Rattle.lemma_refutations.specs.Refutations.{allows, is_impossible, known_from}
 use Rattle.search_report.specs.Places.{Place, is_same_place}
 use Rattle.search_report.specs.Shown.{with_names_of, places_at, places_false, places_in, values_left_at, with_named, with_place, words_left_at}
 use Rattle.search_report.specs.FalseLines.{FalseLinesAreSo, IsAsGiven}

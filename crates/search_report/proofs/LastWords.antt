@@ -11,9 +11,9 @@ use Rattle.refutation_laws.specs.Known.{events_of}
 use Rattle.possible_reads.specs.Facts.{Fact, From, Before, Last, Returns, Holds}
 use Rattle.possible_reads.specs.Laws.{IsPossible}
 use Rattle.possible_reads.specs.Possible.{Reading, Values, any_of, can_be, can_be_last, counted, either_of, fits_last, is_among, is_counter}
-use Rattle.possible_reads.specs.Possible.{is_put_before, is_told_before, last_words, may_be_left, union, values_written}
+use Rattle.possible_reads.specs.Possible.{can_be_left, is_put_before, is_told_before, last_words, least_written, may_be_left, union, values_written}
 use Rattle.possible_reads.proofs.Values.{either-first, either-second, possible-test}
-use Rattle.short_refutations.specs.Edges.{Knowledge}
+use Rattle.lemma_refutations.specs.Edges.{Knowledge}
 use Rattle.search_report.specs.Shown.{is_on_events, or_else, words_left_at}
 use Rattle.search_report.proofs.Members.{Member}
 use Rattle.search_report.proofs.Showing.{eq-self}
@@ -89,7 +89,7 @@ either-known (Some us) (Some vs) m k = by (nat_lt 64 (length (union us vs))) k.1
 
 -- ---- of more writes
 
-module _ (f : Entry → Values) (p q : Entry → Bool) (m : ℕ) (more : (w : Entry) → p w ≡ true → IsPossible (f w) m → q w ≡ true) where
+module _ (f : Entry → Values) (p q : Entry → Bool) (m : ℕ) (more : (w : Entry) → p w ≡ true → IsKnown m (f w) → q w ≡ true) where
   kept-possible : (w : Entry) (ws : List Entry) → IsPossible (any_of (map f (filter q ws))) m → IsPossible (any_of (map f (filter q (w ∷ ws)))) m
   kept-possible w ws is = by (q w)
     where
@@ -119,7 +119,7 @@ module _ (f : Entry → Values) (p q : Entry → Bool) (m : ℕ) (more : (w : En
           one : IsKnown m (f w) ⊎ IsKnown m (any_of (map f (filter p ws)))
               → (IsKnown m (any_of (map f (filter p ws))) → IsPossible (any_of (map f (filter q ws))) m)
               → IsPossible (any_of (map f (filter q (w ∷ ws)))) m
-          one (inl own) further = own-possible w ws (more w e (possible w own)) (possible w own)
+          one (inl own) further = own-possible w ws (more w e own) (possible w own)
           one (inr left) further = kept-possible w ws (further left)
       by rest false e is = kept-possible w ws (rest is)
 
@@ -146,14 +146,19 @@ module _ (t : Litmus) (facts : List Fact) (table : List Reading) (loc m : ℕ) (
   put-the-same : (w : Entry) → list_any (is_put_before (filter is_on_events facts) w) (events_of t) ≡ list_any (is_put_before facts w) (events_of t)
   put-the-same w = λ i. list_any (λ v. told-the-same w v facts i || (is_before w v && writes_to w.loc.0 v)) (events_of t)
 
-  still-last : (w : Entry) → can_be_last t (filter is_on_events facts) table loc w ≡ true → IsPossible (values_written t table w) m
+  -- by values that are known
+  still-left : (values : Values) (least : ℕ) → IsKnown m values → can_be_left facts loc values least ≡ true
+  still-left None least k = absurd (let e = k.1 in let no : ⊥ = cc in no)
+  still-left (Some ws) least k = possible-test (Some ws) (may_be_left facts loc) m (subst (λ v. IsPossible v m) (sym k.1) k.2) fits
+
+  still-last : (w : Entry) → can_be_last t (filter is_on_events facts) table loc w ≡ true → IsKnown m (values_written t table w)
       → can_be_last t facts table loc w ≡ true
-  still-last w is can =
+  still-last w is known-so =
       let all =
       and_parts (writes_to loc w
       && list_all (fits_last loc w) (filter is_on_events facts)
       && not (list_any (is_put_before (filter is_on_events facts) w) (events_of t)))
-      (can_be (values_written t table w) (may_be_left (filter is_on_events facts) loc)) is in
+      (can_be_left (filter is_on_events facts) loc (values_written t table w) (least_written t table w)) is in
       let put =
       and_parts (writes_to loc w && list_all (fits_last loc w) (filter is_on_events facts))
       (not (list_any (is_put_before (filter is_on_events facts) w) (events_of t))) all.0 in
@@ -161,7 +166,7 @@ module _ (t : Litmus) (facts : List Fact) (table : List Reading) (loc m : ℕ) (
       and_from (writes_to loc w && list_all (fits_last loc w) facts && not (list_any (is_put_before facts w) (events_of t))) _
       (and_from (writes_to loc w && list_all (fits_last loc w) facts) (not (list_any (is_put_before facts w) (events_of t)))
       (and_from (writes_to loc w) (list_all (fits_last loc w) facts) fit.0 (sym (fits-the-same loc w facts) ∙ fit.1)) (ap not (sym (put-the-same w)) ∙ put.1))
-      (possible-test (values_written t table w) (may_be_left facts loc) m can fits)
+      (still-left (values_written t table w) (least_written t table w) known-so)
 
   abbrev words : Bool → Bool → List Fact → Values
   words c d fs =

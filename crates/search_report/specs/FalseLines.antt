@@ -5,7 +5,7 @@ use Rattle.std.specs.List.{list_any}
 use Rattle.tso_terms.specs.Litmus.{Litmus}
 use Rattle.tso_terms.specs.Condition.{truth_of}
 use Rattle.possible_reads.specs.Facts.{Fact, Holds}
-use Rattle.short_refutations.specs.Refutations.{is_impossible, known_from}
+use Rattle.lemma_refutations.specs.Refutations.{is_impossible, known_from}
 use Rattle.tso_report.specs.Tally.{shown_value}
 use Rattle.search_report.specs.Places.{Place}
 use Rattle.search_report.specs.Shown.{places_false}

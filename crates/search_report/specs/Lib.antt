@@ -16,12 +16,12 @@ pub mod ShownText
 pub mod Lines
 pub mod LineText
 pub mod LineJson
-pub mod ShortReports
+pub mod RefutationReports
 pub mod FalseLines
 pub mod inner
 pub use Rattle.refutation_laws.specs.Known
 pub use Rattle.refutation_laws.specs.Refutations
 pub use Rattle.relational_model.specs.Candidates
-pub use Rattle.short_refutations.specs.Edges
-pub use Rattle.short_refutations.specs.Refutations as ShortRefutations
+pub use Rattle.lemma_refutations.specs.Edges
+pub use Rattle.lemma_refutations.specs.Refutations as LemmaRefutations
 pub use Rattle.refutation_checker.specs.Trees

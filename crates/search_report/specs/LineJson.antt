@@ -5,7 +5,7 @@ use Rattle.search_report.specs.Vocabulary.{array, asked_claim, Data, items_of, l
 use Rattle.search_report.specs.Vocabulary.{outcomes_verdict_value, string}
 use Rattle.serde_json.specs.Written.{compact_text}
 use Rattle.tso_report.specs.Json.{count}
-use Rattle.short_refutations.specs.Refutations.{Node, Lemma}
+use Rattle.lemma_refutations.specs.Refutations.{Node, Lemma}
 use Rattle.search_report.specs.ReasonText.{model_name}
 use Rattle.search_report.specs.ReasonJson.{asked_value, edges_value, event_value, place_members}
 use Rattle.search_report.specs.declared.shown.Edge.{Edge}

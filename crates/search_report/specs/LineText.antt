@@ -3,7 +3,7 @@ use Rattle.std.specs.Prelude.{ℕ, false, Option, Some, None, List, [], ◌∷�
 use Rattle.std.specs.List.{flat_map}
 use Rattle.std.specs.Fmt.{decimal}
 use Rattle.search_report.specs.Vocabulary.{asked_claim, line, Litmus, Model, test_line, verdict_line}
-use Rattle.short_refutations.specs.Refutations.{Node, Lemma}
+use Rattle.lemma_refutations.specs.Refutations.{Node, Lemma}
 use Rattle.search_report.specs.ReasonText.{asked_line, blanks, never_line}
 use Rattle.search_report.specs.Shown.{ShownFact, Closing}
 use Rattle.search_report.specs.ShownText.{closing_text, facts_text, separated}

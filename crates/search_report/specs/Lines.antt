@@ -8,7 +8,7 @@ use Rattle.std.specs.List.{flat_map}
 use Rattle.std.specs.Str.{bytes_eq}
 use Rattle.search_report.specs.Vocabulary.{Claim, Litmus, Model}
 use Rattle.possible_reads.specs.Facts.{Fact, given_by}
-use Rattle.short_refutations.specs.Refutations.{Node, IsReadBy, HasCase, Lemma, answers, known_from}
+use Rattle.lemma_refutations.specs.Refutations.{Node, IsReadBy, HasCase, Lemma, answers, known_from}
 use Rattle.search_report.specs.Shown.{ShownFact, Closing, closing_at, shown_at, shown_facts}
 use Rattle.search_report.specs.ShownText.{closing_text}
 

@@ -9,10 +9,10 @@ use Rattle.possible_reads.specs.Facts as given
 use Rattle.possible_reads.specs.Facts.{Fact}
 use Rattle.possible_reads.specs.Possible.{Values, last_words, told_value, values_of, values_read, values_written}
 use Rattle.refutation_laws.specs.Edges.{on_location, global_in}
-use Rattle.short_refutations.specs.Edges.{Knowledge}
-use Rattle.short_refutations.specs.Refutations as refutations
-use Rattle.short_refutations.specs.Refutations.{Node, is_impossible}
-use Rattle.short_refutations.specs.Shown.{first_that_relates}
+use Rattle.lemma_refutations.specs.Edges.{Knowledge}
+use Rattle.lemma_refutations.specs.Refutations as refutations
+use Rattle.lemma_refutations.specs.Refutations.{Node, is_impossible}
+use Rattle.lemma_refutations.specs.Shown.{first_that_relates}
 use Rattle.tso_report.specs.Tally.{named_location, named_register}
 use Rattle.tso_report.specs.declared.named.Named.TheVariants.{Register, Location}
 use Rattle.search_report.specs.declared.shown.Event.{Event}

@@ -5,7 +5,7 @@ ghost use Rattle.std.specs.List.{flat_map};
 ghost use Rattle.reading_tables.specs.Told.{facts_of};
 ghost use Rattle.reading_tables.specs.inner.Tables.{IsProblem};
 ghost use Rattle.refutation_checker.specs.Trees.{lemma_of, node_of};
-ghost use Rattle.short_refutations.specs.Refutations.{known_from};
+ghost use Rattle.lemma_refutations.specs.Refutations.{known_from};
 ghost use Rattle.search_report.specs.Lines as spec;
 ghost use Rattle.search_report.specs.inner.LineViews.{reason_line_of, shown_facts_of};
 ghost use Rattle.search_report.specs.Shown.{shown_at, shown_facts};

@@ -109,6 +109,7 @@ fn words_by_events(alloc: Global, told: Told<'_>, loc: u8) -> Result<Option<Vec<
         readings: told.readings,
         made: told.made,
         values: told.values,
+        least: told.least,
     };
     last_words(alloc, by_events, loc)
 }

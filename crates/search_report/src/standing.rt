@@ -4,7 +4,7 @@ ghost use Rattle.std.specs.Prelude.{◌≡◌, ◌++◌, ◌∷◌, [], IfOk, On
 ghost use Rattle.reading_tables.specs.Told.{facts_of};
 ghost use Rattle.reading_tables.specs.inner.Tables.{IsProblem};
 ghost use Rattle.refutation_checker.specs.Trees.{node_of};
-ghost use Rattle.short_refutations.specs.Refutations.{answers, known_from};
+ghost use Rattle.lemma_refutations.specs.Refutations.{answers, known_from};
 ghost use Rattle.search_report.specs.Lines as spec;
 ghost use Rattle.search_report.specs.inner.LineViews.{shown_facts_of};
 ghost use Rattle.search_report.specs.Shown.{closing_at as spec_closing_at, shown_facts};

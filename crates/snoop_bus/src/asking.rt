@@ -104,7 +104,7 @@ impl Hierarchy {
         let found = find(&self.caches, protocol, Request::GetS, line);
         let words = found.words.unwrap_or(self.memory[usize::from(line)]);
         let state = protocol.filled(found.shared);
-        self.snoop_others(protocol, Request::GetS, core, line, &found.states);
+        self.snoop_others(protocol, Request::GetS, core, line, &found);
         self.flush(line, words, found.flushed);
         let supplier = Some(supplier_in(found.supplier));
         Transaction {
@@ -146,7 +146,7 @@ impl Hierarchy {
         let transient = transient(state, Request::GetM)?;
         let found = find(&self.caches, protocol, Request::GetM, line);
         let words = found.words.unwrap_or(self.memory[usize::from(line)]);
-        self.snoop_others(protocol, Request::GetM, core, line, &found.states);
+        self.snoop_others(protocol, Request::GetM, core, line, &found);
         let copy = Line {
             state: State::M,
             words,

@@ -2,9 +2,10 @@
 //! was asked, or a dirty one that is lost, would break coherence. (Primer, chapters 6 and 7.)
 ghost use Rattle.std.specs.Prelude.{◌≡◌, ◌≢◌, ◌<◌, ◌≤◌, ℕ, None, IfSome, length};
 ghost use Rattle.std.specs.Prelude.{slice_set, slice_index_or, is_some, option_map, if◌then◌else◌};
+ghost use Rattle.std.specs.List.{list_any};
 ghost use Rattle.tso_terms.specs.Limits.{most_cores};
 ghost use Rattle.cache_set.specs.CacheTags.{requested};
-ghost use Rattle.cache_set.specs.Copies.{tags_of, cache_of};
+ghost use Rattle.cache_set.specs.Copies.{tags_of, cache_of, copy_in};
 ghost use Rattle.cache_set.specs.inner.Copies.{ways_of, ways_in, copy_state_in, state_at, OnlyAt};
 ghost use Rattle.cache_set.specs.Requests.{snoop_column};
 ghost use Rattle.snoop_bus.specs.inner.Requests.{after_request, copy_left_by, LeftByOthers};
@@ -12,10 +13,9 @@ ghost use Rattle.snoop_bus.specs.MemoryAfter.{written_back};
 ghost use Rattle.snoop_bus.specs.CacheContents.{departing};
 
 use crate::access::Departure;
-use crate::bus::MAX_CORES;
 use crate::hierarchy::Hierarchy;
 use cache_set::cache::Cache;
-use cache_set::finding::answer;
+use cache_set::finding::{Found, answer};
 use cache_set::{MAX_WORDS, Victim};
 use protocol_tables::{Protocol, Request, State};
 use tso_terms::Core;
@@ -44,8 +44,7 @@ fn snoop_one<P: Protocol>(
 }
 
 impl Hierarchy {
-    /// Every cache but the core's own sees its request for a line. Their copies of it are in these states, core
-    /// by core.
+    /// Every cache but the core's own sees its request for a line, of which so much was found in them.
     #[inline(always)]
     pub fn snoop_others<P: Protocol>(
         &mut self,
@@ -53,20 +52,25 @@ impl Hierarchy {
         request: Request,
         core: usize,
         line: u8,
-        states: &[Option<State>; MAX_CORES as usize],
+        found: &Found,
     )
         requires few { length self.old.caches.items ≤ most_cores }
-        requires states { (i : ℕ) → i ≢ core → slice_index_or states.now i None ≡ state_at self.old.caches.items i line }
+        requires states { (i : ℕ) → i ≢ core → slice_index_or found.now.states i None ≡ state_at self.old.caches.items i line }
+        requires shared { found.now.shared ≡ list_any (λ sets. is_some (copy_in sets line)) self.old.caches.items }
         ensures tags { tags_of self.new.caches.items ≡ requested (snoop_column (P.table protocol.now) request) core line (tags_of self.old.caches.items) }
         ensures own { cache_of self.new.caches.items core ≡ cache_of self.old.caches.items core }
         ensures copies { LeftByOthers (snoop_column (P.table protocol.now) request) core line self.old.caches.items self.new.caches.items }
         ensures ways { ways_of self.new.caches.items ≡ ways_of self.old.caches.items }
         ensures memory { self.new.memory.items ≡ self.old.memory.items }
     {
+        // Most lines are in no cache.
+        if !found.shared {
+            return;
+        }
         for other in 0..self.caches.len() {
             if other != core {
                 let cache = &mut self.caches[other];
-                snoop_one(cache, protocol, request, line, states[other]);
+                snoop_one(cache, protocol, request, line, found.states[other]);
             }
         }
     }

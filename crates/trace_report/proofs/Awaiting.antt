@@ -5,7 +5,7 @@ use Rattle.trace_report.proofs.Vocabulary.{sym, ap, subst, MemoryAccess, NoAcces
 use Rattle.trace_report.proofs.Vocabulary.{Table, transient_of, I, E, M, Request, GetS, GetM, Transient, Geometry, table_of_rows, TagSets}
 use Rattle.trace_report.proofs.Vocabulary.{tag_in, sets_of, snoop_column, Awaited, tag_at, or_invalid, awaiting, asking, asked_caches_in}
 use Rattle.trace_report.proofs.Vocabulary.{Caches, Used, is_awaited, asking_by, completing_by, Unused, IsUseFor, KeepsNoCopyInI, AllNeat}
-use Rattle.trace_report.proofs.Vocabulary.{found-valid, all-requested, own-kept, at_access, whole_by, Bus, Outcome, request_for}
+use Rattle.trace_report.proofs.Vocabulary.{found-valid, all-requested, own-kept, at_access, whole_by, Bus, request_for}
 use Rattle.std.specs.Option.{option_map}
 use Rattle.snoop_bus.specs.CacheContents.{evicted_by}
 use Rattle.multiprocessor.specs.declared.accesses.CacheUse.{CacheUse}
@@ -175,25 +175,25 @@ still-may c core u k _ s may = still-complete c core u k _ s may
 
 -- ---- a choice on either bus
 
-module _ (on : Bus) (c : Caches) (a : Choice) (before after : Choice → MemoryAccess) (holder next : Holder) (o : Outcome) (u : Used) where
+module _ (on : Bus) (c : Caches) (a : Choice) (before after : Choice → MemoryAccess) (holder next : Holder) (u : Used) where
   module _ (keeps : KeepsNoCopyInI (table_of_rows c.rows)) (may : HolderMayMake before holder c) where
     -- what the holder awaits
     own-may : holder ≡ HeldBy a → MayMake c (chosen a) (before a)
     own-may held = subst (λ x. HolderMayMake before x c) held may
 
     pub neat-after : (lines : ℕ)
-        → UsesOn on c a before after holder next o u
+        → UsesOn on c a before after holder next u
         → IsWithin lines c.shape.words (before a)
         → AllNeat lines c.contents
         → NeatAfter lines u
-    neat-after lines (made it why stays acted) within h = use-neat lines c (chosen a) (before a) u it within keeps h
-    neat-after lines (unused is stays acted) within h = subst (NeatAfter lines) (sym is) h
-    neat-after lines (begun split is outcome some free held same) within h = subst (NeatAfter lines) (sym is) (asks-neat lines c (chosen a) (before a) h)
+    neat-after lines (made it why stays) within h = use-neat lines c (chosen a) (before a) u it within keeps h
+    neat-after lines (unused is stays) within h = subst (NeatAfter lines) (sym is) h
+    neat-after lines (begun split is some free held same) within h = subst (NeatAfter lines) (sym is) (asks-neat lines c (chosen a) (before a) h)
     neat-after lines (ended split is some held rest) within h =
         subst (NeatAfter lines) (sym is) (completes-neat lines c (chosen a) (before a) within (own-may held) h)
 
     -- what holds the bus after it
-    pub may-after : (lines : ℕ) → UsesOn on c a before after holder next o u → AllNeat lines c.contents → HolderMayMake after next u.caches
+    pub may-after : (lines : ℕ) → UsesOn on c a before after holder next u → AllNeat lines c.contents → HolderMayMake after next u.caches
     may-after lines uses h = by_next next refl
       where
         kept : (other : Choice) → Stays before after holder next → next ≡ HeldBy other → IsStill c (chosen a) u → MayMake u.caches (chosen other) (after other)
@@ -202,11 +202,11 @@ module _ (on : Bus) (c : Caches) (a : Choice) (before after : Choice → MemoryA
             subst (MayMake u.caches (chosen other)) (sym held.1)
             (still-may c (chosen a) u (chosen other) (before other) still (subst (λ x. HolderMayMake before x c) held.0 may))
 
-        by_use : (other : Choice) → next ≡ HeldBy other → UsesOn on c a before after holder next o u → MayMake u.caches (chosen other) (after other)
-        by_use other q (made it (inl free) stays acted) = let f = free.2 in absurd (let z : ⊥ = cc in z)
-        by_use other q (made it (inr free) stays acted) = kept other stays q (use-still c (chosen a) (before a) u it free)
-        by_use other q (unused is stays acted) = kept other stays q (subst (IsStill c (chosen a)) (sym is) (none-still c (chosen a) Unused refl refl))
-        by_use other q (begun split is outcome some free held same) =
+        by_use : (other : Choice) → next ≡ HeldBy other → UsesOn on c a before after holder next u → MayMake u.caches (chosen other) (after other)
+        by_use other q (made it (inl free) stays) = let f = free.2 in absurd (let z : ⊥ = cc in z)
+        by_use other q (made it (inr free) stays) = kept other stays q (use-still c (chosen a) (before a) u it free)
+        by_use other q (unused is stays) = kept other stays q (subst (IsStill c (chosen a)) (sym is) (none-still c (chosen a) Unused refl refl))
+        by_use other q (begun split is some free held same) =
             let this : a ≡ other = cc in
             subst (λ k. MayMake u.caches (chosen k) (after k)) this
             (subst (MayMake u.caches (chosen a)) (sym same)
@@ -218,10 +218,10 @@ module _ (on : Bus) (c : Caches) (a : Choice) (before after : Choice → MemoryA
         by_next _ q = tt
 
     -- a choice that writes a line back
-    pub fills-by : UsesOn on c a before after holder next o u → FillsIf c (chosen a) (before a) u
-    fills-by (made it why stays acted) = use-fills c (chosen a) (before a) u it keeps
-    fills-by (unused is stays acted) = subst (FillsIf c (chosen a) (before a)) (sym is) (λ dirty. absurd (let z : ⊥ = cc in z))
-    fills-by (begun split is outcome some free held same) = λ dirty.
+    pub fills-by : UsesOn on c a before after holder next u → FillsIf c (chosen a) (before a) u
+    fills-by (made it why stays) = use-fills c (chosen a) (before a) u it keeps
+    fills-by (unused is stays) = subst (FillsIf c (chosen a) (before a)) (sym is) (λ dirty. absurd (let z : ⊥ = cc in z))
+    fills-by (begun split is some free held same) = λ dirty.
         (let z : false ≡ true =
         sym (asking-clean c (chosen a) (before a)).0 ∙ subst (λ (x : Used). wrote_in x.how ≡ true) is dirty in
         absurd (let y : ⊥ = cc in y))

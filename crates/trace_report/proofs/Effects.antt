@@ -1,11 +1,10 @@
 -- What a choice does to its core's pending stores, whatever holds the bus.
-use Rattle.trace_report.proofs.Vocabulary.{◌≡◌, ◌≢◌, ◌∙◌, ℕ, zero, suc, ◌+◌, nat_lt, List, [], ◌∷◌, ◌++◌, length, drop, Option, Some, None}
+use Rattle.trace_report.proofs.Vocabulary.{◌≡◌, ◌∙◌, ℕ, zero, suc, ◌+◌, nat_lt, List, [], ◌∷◌, ◌++◌, length, drop, Option, Some, None}
 use Rattle.trace_report.proofs.Vocabulary.{refl, sym, ap, arith, length-append, Litmus, action_of, CoreState, State, Effect}
 use Rattle.trace_report.proofs.Vocabulary.{is_none_pending, stored, effect_by, effect_of, core_of, chosen, next_of, Attempt, as_read}
 use Rattle.trace_report.proofs.Vocabulary.{after_first, BusState, effect_on, Bus, Instr, Action, Store, Fence, Lock, Entry, Choice, Step}
 use Rattle.trace_report.proofs.Vocabulary.{Drain, Outcome, Committed, Buffered, Stalled, Stall, committed_at, waited_before, if-by}
 use Rattle.trace_report.proofs.Vocabulary.{effect-by, drain_with, step_of}
-use Rattle.tso_terms.specs.declared.choice.Outcome.TheVariants as out
 
 -- nothing became pending, a store did, or the oldest was drained
 pub data Form (choice : Choice) (s : CoreState) (f : Effect) : Type 0 where
@@ -117,30 +116,3 @@ nothing-new choice s f form = named f.outcome f.commits (drop (length s.pending)
     quiet-form (still same waited quiet) = quiet
     quiet-form (grown e more is none) = ap (λ o. committed_at o f.commits) is ∙ sym none
     quiet-form (shrunk core e less is drain) = ap (λ o. committed_at o f.commits) is
-
--- ---- no choice asks for the bus on the flat machine
-
-abbrev NeverAsks : Effect → Type 0
-NeverAsks f = f.outcome ≢ out.Asked
-
-stored-unasked : (depth : ℕ) (s : CoreState) (e : Entry) → NeverAsks (stored depth s e)
-stored-unasked zero s e = λ q. let z : ⊥ = cc in z
-stored-unasked (suc n) s e = if-by NeverAsks (nat_lt (length s.pending) (suc n)) _ _ (λ room q. (let z : ⊥ = cc in z)) (λ full q. (let z : ⊥ = cc in z))
-
-step-unasked : (depth core : ℕ) (memory : List ℕ) (i : Option Instr) (s : CoreState) → NeverAsks (step_of depth memory core i s)
-step-unasked depth core memory None s = λ q. let z : ⊥ = cc in z
-step-unasked depth core memory (Some x) s = by_action (action_of x)
-  where
-    by_action : (a : Action) → NeverAsks (effect_by depth memory core a s)
-    by_action (Store loc operand) = stored-unasked depth s _
-    by_action Fence = if-by NeverAsks (is_none_pending s.pending) _ _ (λ none q. (let z : ⊥ = cc in z)) (λ some q. (let z : ⊥ = cc in z))
-    by_action (Lock loc reg update) = if-by NeverAsks (is_none_pending s.pending) _ _ (λ none q. (let z : ⊥ = cc in z)) (λ some q. (let z : ⊥ = cc in z))
-    by_action _ = λ q. let z : ⊥ = cc in z
-
-drain-unasked : (s : CoreState) (q : List Entry) → NeverAsks (drain_with s q)
-drain-unasked s [] = λ q. let z : ⊥ = cc in z
-drain-unasked s (p ∷ ps) = λ q. let z : ⊥ = cc in z
-
-pub flat-unasked : (t : Litmus) (depth : ℕ) (state : State) (a : Choice) → NeverAsks (effect_of t depth state a)
-flat-unasked t depth state (Step core) = step-unasked depth core.0 state.memory (next_of t state core.0) (core_of state core.0)
-flat-unasked t depth state (Drain core) = drain-unasked (core_of state core.0) (core_of state core.0).pending

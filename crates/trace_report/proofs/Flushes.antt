@@ -1,13 +1,13 @@
 -- What a choice makes of the copies that are sent to memory: those that its step tells, those that it counts, and those that are
 -- told already and counted later.
 use Rattle.trace_report.proofs.Vocabulary.{◌≡◌, ◌≢◌, ◌∙◌, ◌/◌, ℕ, Bool, true, false, List, Option, Some, None, refl, sym, ap, subst, chosen}
-use Rattle.trace_report.proofs.Vocabulary.{MemoryAccess, NoAccess, Holder, Bus, Core, Choice, Outcome, Table, transient_of, Request, GetS}
+use Rattle.trace_report.proofs.Vocabulary.{MemoryAccess, NoAccess, Holder, Bus, Core, Choice, Table, transient_of, Request, GetS}
 use Rattle.trace_report.proofs.Vocabulary.{GetM, Transient, SmD, table_of_rows, TagSets, Awaited, tag_at, or_invalid, asked_for, asking}
 use Rattle.trace_report.proofs.Vocabulary.{awaiting, requesting, completed, completed_in, next_in_place, whole_in, whole_by, Through}
 use Rattle.trace_report.proofs.Vocabulary.{Caches, Used, IsUseFor, asking_by, is_awaited, nothing_sent, sent_by, sent_with, inl, inr}
 use Rattle.trace_report.proofs.Vocabulary.{completing_by, request_for}
 use Rattle.std.specs.Option.{option_map}
-use Rattle.multiprocessor.specs.Caches.{asking_use}
+use Rattle.multiprocessor.specs.declared.accesses.CacheUse.TheVariants as uses
 use Rattle.protocol_tables.specs.declared.state.State.TheVariants as tag
 use Rattle.protocol_tables.specs.declared.state.State as protocol
 use Rattle.trace_report.proofs.InPlace.{flush_in, asking-clean, use-keeps, is_write_access}
@@ -85,7 +85,7 @@ completes-flush c core _ some quiet = (completed-flush (table_of_rows c.rows) co
 -- ---- it is told where it is asked for
 
 asked-told : (t : Table) (request : Request) (line : ℕ) (caches : List TagSets) (o : Option Transient)
-    → (sent_by (asking_use (option_map (requesting t request line caches) o))).flushed ≡ flush_awaited (option_map (awaiting t request line caches) o)
+    → (sent_by (uses.Asked (option_map (requesting t request line caches) o))).flushed ≡ flush_awaited (option_map (awaiting t request line caches) o)
 unfolding awaiting requesting
 asked-told t request line caches None = refl
 asked-told t request line caches (Some x) = refl
@@ -120,15 +120,15 @@ use-told c core what u is = rw is (whole-told-by c core _ (is_write_access what)
 
 -- ---- a choice on either bus
 
-module _ (c : Caches) (a : Choice) (before after : Choice → MemoryAccess) (holder next : Holder) (o : Outcome) (u : Used) (quiet : UpgradesQuietly c.awaited)
+module _ (c : Caches) (a : Choice) (before after : Choice → MemoryAccess) (holder next : Holder) (u : Used) (quiet : UpgradesQuietly c.awaited)
     (resting : is_awaited holder ≡ false → flush_awaited c.awaited ≡ None) where
   abbrev TurnsOn : Type 0
   TurnsOn = Turns (is_awaited holder) (is_awaited next) c.awaited u.caches.awaited (sent_by u.how).flushed (flush_in u.how)
 
-  pub choice-turn : (on : Bus) → UsesOn on c a before after holder next o u → TurnsOn
-  choice-turn on (made it why stays acted) = whole (use-told c (chosen a) (before a) u it) (use-keeps c (chosen a) (before a) u it).1 stays.waits
-  choice-turn on (unused is stays acted) = whole (rw is refl) (ap (λ (x : Used). x.caches.awaited) is) stays.waits
-  choice-turn on (begun split is outcome some free held same) =
+  pub choice-turn : (on : Bus) → UsesOn on c a before after holder next u → TurnsOn
+  choice-turn on (made it why stays) = whole (use-told c (chosen a) (before a) u it) (use-keeps c (chosen a) (before a) u it).1 stays.waits
+  choice-turn on (unused is stays) = whole (rw is refl) (ap (λ (x : Used). x.caches.awaited) is) stays.waits
+  choice-turn on (begun split is some free held same) =
       let q = asks-quiet c (chosen a) (before a) quiet in
       asked (subst (λ (x : Used). (sent_by x.how).flushed ≡ flush_awaited x.caches.awaited) (sym is)
       (asks-told c (chosen a) (before a) (resting (ap is_awaited free))))

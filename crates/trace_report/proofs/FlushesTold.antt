@@ -82,7 +82,7 @@ abbrev pub UsesOf : Running → Choice → Type 0
 UsesOf m c =
     UsesOn m.bus m.statistics.caches c (access_of m.test m.depth m.state.flat)
     (access_of m.test m.depth (machine_after m c).state.flat) m.state.holder (machine_after m c).state.holder
-    (machine_effect m c).effect.outcome (machine_use m c)
+    (machine_use m c)
 
 -- and its core's pending stores stay stores
 pub uses-of : (m : Running) (c : Choice) → IsSound m → UsesOf m c × AllStores (machine_after m c).state.flat
@@ -97,7 +97,7 @@ turn : (m : Running) (c : Choice) → IsSound m → TurnsOn m c
 unfolding trace_step_of
 turn m c s =
     choice-turn m.statistics.caches c (access_of m.test m.depth m.state.flat) (access_of m.test m.depth (machine_after m c).state.flat)
-    m.state.holder (machine_after m c).state.holder (machine_effect m c).effect.outcome (machine_use m c) s.quiet s.resting m.bus (uses-of m c s).0
+    m.state.holder (machine_after m c).state.holder (machine_use m c) s.quiet s.resting m.bus (uses-of m c s).0
 
 among-all : (m : Running) (c : Choice) → IsSound m
     → IsFlusherAmong (length m.statistics.caches.contents) (machine_use m c).how

@@ -8,9 +8,7 @@ use Rattle.trace_report.proofs.Vocabulary.{WriteBacksAreTold, after_choices, Kee
 use Rattle.std.specs.Option.{option_map}
 use Rattle.snoop_bus.specs.CacheContents.{departing}
 use Rattle.snoop_bus.specs.inner.CacheContents.{was_written_back}
-use Rattle.snoop_bus.specs.declared.access.BusRequest.{BusRequest}
 use Rattle.snoop_bus.specs.declared.access.Departure.{Departure}
-use Rattle.multiprocessor.specs.Caches.{asking_use}
 use Rattle.multiprocessor.proofs.EachUse.{each-use}
 use Rattle.protocol_tables.specs.declared.state.State as protocol
 use Rattle.trace_report.specs.Steps as steps
@@ -63,10 +61,6 @@ gives m choice k there dirty = by_victim (leaving (tags_at sets f.came)) refl
 -- ---- what a step tells
 
 -- what a choice does with the caches tells a line exactly where it says that one was written back
-asking-consistent : (o : Option BusRequest) → IsConsistent (asking_use o)
-asking-consistent None = refl
-asking-consistent (Some request) = refl
-
 consistent : (m : Running) (c : Choice) → IsConsistent (machine_use m c).how
 consistent m c =
     let f = machine_effect m c in
@@ -74,7 +68,7 @@ consistent m c =
     let t = table_of_rows caches.rows in
     each-use (λ u. IsConsistent u.how) caches refl refl
     (λ k loc write. whole-consistent t write k (loc / caches.shape.words) caches.contents) (chosen c)
-    (λ loc write. asking-consistent _)
+    (λ loc write. refl)
     (λ loc. completed-consistent t (chosen c) (loc / caches.shape.words) caches.awaited caches.contents)
     (is_awaited m.state.holder) (is_awaited f.holder) (access_of m.test m.depth m.state.flat c)
     (core_of m.state.flat (chosen c)).pending f.effect.commits

@@ -5,8 +5,7 @@ use Rattle.trace_report.proofs.Vocabulary.{MemoryAccess, NoAccess, Locks, needs_
 use Rattle.trace_report.proofs.Vocabulary.{tags_at, tag_in, at_line, sets_of, used_by, tag_at, Caches, Used, not_through, hits_by, Unused}
 use Rattle.trace_report.proofs.Vocabulary.{IsUseFor, no_set, absent-remove, would_hit, through, whole_by, Forwarded, Through, next_in_place}
 use Rattle.trace_report.proofs.Vocabulary.{whole_in, CacheUse, Core, at_access}
-use Rattle.multiprocessor.specs.Caches.{asking_use, asking_by}
-use Rattle.snoop_bus.specs.declared.access.BusRequest.{BusRequest}
+use Rattle.multiprocessor.specs.Caches.{asking_by}
 use Rattle.snoop_bus.specs.inner.CacheContents.{was_written_back}
 use Rattle.trace_report.specs.Steps.{left_in}
 use Rattle.protocol_tables.specs.declared.state.State.{State}
@@ -36,11 +35,7 @@ IsConsistent how = was_written_back (left_in how) ≡ wrote_in how
 pub asking-clean : (c : Caches) (core : ℕ) (what : MemoryAccess)
     → (wrote_in (asking_by c core what).how ≡ false) × (flush_in (asking_by c core what).how ≡ None)
 asking-clean c core NoAccess = (refl, refl)
-asking-clean c core _ = by_request _
-  where
-    by_request : (o : Option BusRequest) → (wrote_in (asking_use o) ≡ false) × (flush_in (asking_use o) ≡ None)
-    by_request None = (refl, refl)
-    by_request (Some request) = (refl, refl)
+asking-clean c core _ = (refl, refl)
 
 -- where a line is used that is there, a line that isn't there stays away
 tags-absent : (other line : ℕ) (state found : State) (s : TagSet) → tag_of s line ≡ Some found → tag_of s other ≡ None → tag_of (used line state s) other ≡ None

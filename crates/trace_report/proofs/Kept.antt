@@ -69,10 +69,10 @@ kept-after m c k =
       neat =
           subst (λ n. AllNeat n (machine_use m c).caches.contents)
           (sym (ap (λ n. div_ceil (length m.test.locations) n) (words-kept m c)))
-          (neat-after m.bus caches c before after m.state.holder next (machine_effect m c).effect.outcome
+          (neat-after m.bus caches c before after m.state.holder next
           (machine_use m c) k.keeps k.may (number_of_lines m) uses within k.neat);
       may =
-          may-after m.bus caches c before after m.state.holder next (machine_effect m c).effect.outcome
+          may-after m.bus caches c before after m.state.holder next
           (machine_use m c) k.keeps k.may (number_of_lines m) uses k.neat;
     }
 
@@ -81,7 +81,7 @@ pub fills-of : (m : Running) (c : Choice) → IsKept m → FillsIf m.statistics.
 fills-of m c k =
     fills-by m.bus m.statistics.caches c (access_of m.test m.depth m.state.flat)
     (access_of m.test m.depth (machine_after m c).state.flat) m.state.holder (machine_after m c).state.holder
-    (machine_effect m c).effect.outcome (machine_use m c) k.keeps k.may (uses-of m c k.sound).0
+    (machine_use m c) k.keeps k.may (uses-of m c k.sound).0
 
 -- the caches are empty at the beginning
 empty-sets : {A : Type 0} (P : ℕ → protocol.State → Type 0) (f : A → TagSet) (x : A) (count i : ℕ)

@@ -7,7 +7,8 @@ use Rattle.trace_report.proofs.Vocabulary.{asked_for, completed, completed_in, w
 use Rattle.trace_report.proofs.Vocabulary.{Forwarded, Through, at_access, not_through, whole_by, use_by_kind, use_of, used_between, IsAt}
 use Rattle.trace_report.proofs.Vocabulary.{IsLine, sent_by, line_states, placed_states_from, number_of_lines, states_of, number_of_state}
 use Rattle.trace_report.proofs.Vocabulary.{change_of, changes_in, among, buffer_if_changed, StateChange, PlacedState, cases_Bool, inl, inr}
-use Rattle.multiprocessor.specs.Caches.{ask_by, asking_use, completion_by}
+use Rattle.multiprocessor.specs.Caches.{ask_by, completion_by}
+use Rattle.multiprocessor.specs.declared.accesses.CacheUse.TheVariants as uses
 use Rattle.protocol_tables.specs.declared.state.State.{State}
 use Rattle.trace_report.proofs.Places.{AccessKnown, line-at, line-within}
 
@@ -45,7 +46,7 @@ module _ (t : Litmus) (c : Caches) (some : 0 < c.shape.words) where
   asked-known core loc write k = by_transient (asked_for (request_for write) core (loc / c.shape.words) c.contents)
     where
       by_transient : (o : Option Transient)
-          → IsKnownSent (asking_use (option_map (requesting (table_of_rows c.rows) (request_for write) (loc / c.shape.words) c.contents) o))
+          → IsKnownSent (uses.Asked (option_map (requesting (table_of_rows c.rows) (request_for write) (loc / c.shape.words) c.contents) o))
       by_transient None = tt
       by_transient (Some x) = line-at t c.shape.words loc some k
 

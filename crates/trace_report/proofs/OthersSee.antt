@@ -1,13 +1,12 @@
 -- The request that a step tells is the one that the other caches see.
 use Rattle.trace_report.proofs.Vocabulary.{◌≡◌, ◌≢◌, ◌∙◌, ◌/◌, ℕ, Bool, List, [], ◌∷◌, Option, Some, None, option_map, inl, inr, refl, sym}
-use Rattle.trace_report.proofs.Vocabulary.{ap, subst, chosen, MemoryAccess, NoAccess, access_of, Holder, Bus, Choice, Outcome, Table}
+use Rattle.trace_report.proofs.Vocabulary.{ap, subst, chosen, MemoryAccess, NoAccess, access_of, Holder, Bus, Choice, Table}
 use Rattle.trace_report.proofs.Vocabulary.{Request, Transient, SmD, M, table_of_rows, snoop_column, used, filled, TagSets, at_line, sets_of}
 use Rattle.trace_report.proofs.Vocabulary.{Awaited, awaiting, requesting, asked_for, asked_caches_in, completed, completed_in}
 use Rattle.trace_report.proofs.Vocabulary.{next_in_place, tag_at, whole_by, Through, Caches, Used, asking_by, completing_by, Configuration}
 use Rattle.trace_report.proofs.Vocabulary.{Running, new_machine, machine_after, IsUseFor, sent_by, with_seen, OthersSeeTheRequest}
 use Rattle.trace_report.proofs.Vocabulary.{after_choices, Sent, Litmus, awaited_as, request_for, whole_in, machine_use, requested}
-use Rattle.trace_report.proofs.Vocabulary.{machine_effect}
-use Rattle.multiprocessor.specs.Caches.{asking_use}
+use Rattle.multiprocessor.specs.declared.accesses.CacheUse.TheVariants as uses
 use Rattle.protocol_tables.specs.declared.state.State as protocol
 use Rattle.machine_core.proofs.Snooped.{requested-at, own-alone}
 use Rattle.trace_report.specs.Steps as steps
@@ -44,7 +43,7 @@ completes-unseen c core k what n =
 
 asked-seen : (t : Table) (request : Request) (core line k : ℕ) (caches : List TagSets) (o : Option Transient) → k ≢ core
     → sets_of (asked_caches_in t request core line o caches) k
-    ≡ with_seen t (sent_by (asking_use (option_map (requesting t request line caches) o))).request (sets_of caches k)
+    ≡ with_seen t (sent_by (uses.Asked (option_map (requesting t request line caches) o))).request (sets_of caches k)
 unfolding requesting
 asked-seen t request core line k caches None n = refl
 asked-seen t request core line k caches (Some x) n = requested-at (snoop_column t request) core line caches k n
@@ -81,13 +80,13 @@ use-seen c core k what u is n = subst (λ (x : Used). SeesSent c k x (sent_by x.
 
 -- ---- a choice on either bus
 
-choice-sees : (on : Bus) (c : Caches) (a : Choice) (before after : Choice → MemoryAccess) (holder next : Holder) (o : Outcome) (u : Used) (k : ℕ) → k ≢ chosen a
-    → UsesOn on c a before after holder next o u → SeesSent c k u (sent_by u.how)
-choice-sees on c a before after holder next o u k n (made it why stays acted) = use-seen c (chosen a) k (before a) u it n
-choice-sees on c a before after holder next o u k n (unused is stays acted) = subst (λ (x : Used). SeesSent c k x (sent_by x.how)) (sym is) refl
-choice-sees on c a before after holder next o u k n (begun split is outcome some free held same) =
+choice-sees : (on : Bus) (c : Caches) (a : Choice) (before after : Choice → MemoryAccess) (holder next : Holder) (u : Used) (k : ℕ) → k ≢ chosen a
+    → UsesOn on c a before after holder next u → SeesSent c k u (sent_by u.how)
+choice-sees on c a before after holder next u k n (made it why stays) = use-seen c (chosen a) k (before a) u it n
+choice-sees on c a before after holder next u k n (unused is stays) = subst (λ (x : Used). SeesSent c k x (sent_by x.how)) (sym is) refl
+choice-sees on c a before after holder next u k n (begun split is some free held same) =
     subst (λ (x : Used). SeesSent c k x (sent_by x.how)) (sym is) (asks-seen c (chosen a) k (before a) n)
-choice-sees on c a before after holder next o u k n (ended split is some held rest) =
+choice-sees on c a before after holder next u k n (ended split is some held rest) =
     subst (λ (x : Used). SeesSent c k x (sent_by x.how)) (sym is) (completes-unseen c (chosen a) k (before a) n)
 
 others-see : (m : Running) (choice : Choice) → IsSound m → OthersSeeTheRequest m choice
@@ -95,7 +94,7 @@ unfolding steps.trace_step_of
 others-see m choice sound core n =
     choice-sees m.bus m.statistics.caches choice (access_of m.test m.depth m.state.flat)
     (access_of m.test m.depth (machine_after m choice).state.flat) m.state.holder (machine_after m choice).state.holder
-    (machine_effect m choice).effect.outcome (machine_use m choice) core n (uses-of m choice sound).0
+    (machine_use m choice) core n (uses-of m choice sound).0
 
 -- ---- along the choices
 

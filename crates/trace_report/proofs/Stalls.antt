@@ -108,8 +108,7 @@ pub stall-source : (m : Running) (choice : Choice) (why : Stall)
     → None ≡ supplied_by m choice
 stall-source m choice why same stalls =
     none-read (reads_from m.test (core_of m.state.flat (chosen choice)).place choice)
-    (source_in (running.machine_effect m choice).effect.outcome (machine_use m choice).how)
-    (λ i. source_in (stalls i) (stall-unused m choice why same stalls i))
+    (source_in (machine_use m choice).how) (ap source_in (stall-unused m choice why same stalls))
 
 -- what a choice did that stalled and changed nothing
 pub stall-shown : (m : Running) (choice : Choice) (why : Stall) → machine_after m choice ≡ m → (running.machine_effect m choice).effect.outcome ≡ Stalled why

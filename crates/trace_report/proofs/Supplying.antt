@@ -3,12 +3,12 @@ use Rattle.trace_report.proofs.Vocabulary.{arith, ◌≡◌, ◌≢◌, ◌∙�
 use Rattle.trace_report.proofs.Vocabulary.{[], ◌∷◌, length, Option, Some, None, IfSome, option_map, is_some, slice_index_or, inl, inr, refl}
 use Rattle.trace_report.proofs.Vocabulary.{sym, ap, subst, Litmus, chosen, Loc, Core, MemoryAccess, NoAccess, Writes, access_of, access_by}
 use Rattle.trace_report.proofs.Vocabulary.{step_access, load_access, locked_access, next_of, action_of, filter, writes_to, Instr, Action}
-use Rattle.trace_report.proofs.Vocabulary.{Load, Lock, Entry, Step, Drain, Holder, Free, HeldBy, needs_bus, Bus, Choice, Outcome, Table}
+use Rattle.trace_report.proofs.Vocabulary.{Load, Lock, Entry, Step, Drain, Holder, Free, HeldBy, needs_bus, Bus, Choice, Table}
 use Rattle.trace_report.proofs.Vocabulary.{table_of, ProtocolKind, table_of_rows, rows_of, snoop_column, TagSets, tag_in, sets_of, tag_at}
 use Rattle.trace_report.proofs.Vocabulary.{or_invalid, transient_of, Request, GetS, GetM, Transient, IsD, ImD, SmD, I, E, O, M, Awaited}
 use Rattle.trace_report.proofs.Vocabulary.{requesting, completed, completed_in, next_in_place, awaited_as, request_for, whole_in, asked_for}
-use Rattle.trace_report.proofs.Vocabulary.{Caches, Used, not_through, Unused, Through, CacheUse, asking_by, completing_by, hits_by}
-use Rattle.trace_report.proofs.Vocabulary.{IsUseFor, Running, new_machine, machine_use, machine_after, machine_effect, after_choices}
+use Rattle.trace_report.proofs.Vocabulary.{Caches, Used, Through, CacheUse, asking_by, completing_by, hits_by}
+use Rattle.trace_report.proofs.Vocabulary.{IsUseFor, Running, new_machine, machine_use, machine_after, after_choices}
 use Rattle.trace_report.proofs.Vocabulary.{AllNeat, found-valid, number_of_lines, line_state, state_with, awaited_at, bus_holder_as}
 use Rattle.trace_report.proofs.Vocabulary.{is_newer, is_newer_in, own_word, own_words_from, Source, source_of, source_in, supplied_by}
 use Rattle.trace_report.proofs.Vocabulary.{SourcesAreTold, core_of}
@@ -20,8 +20,6 @@ use Rattle.cache_set.specs.CacheTags.{first_from, first_supplier, supplies_in}
 use Rattle.snoop_bus.specs.Asks.{moved_in, supplier_in}
 use Rattle.multiprocessor.specs.declared.accesses.CacheUse.TheVariants as uses
 use Rattle.tso_terms.specs.declared.choice.Bus.TheVariants as either
-use Rattle.tso_terms.specs.declared.choice.Outcome.TheVariants as out
-use Rattle.multiprocessor.specs.Caches.{asking_use}
 use Rattle.trace_report.specs.Supplied.{reads_from, reads_at, action_reads}
 use Rattle.trace_report.specs.SupplyLaws.{line_accessed, request_made, IsFoundBy, IsFoundAt, MemoryIsSeen, machine_by}
 use Rattle.trace_report.specs.declared.supplied.Source.TheVariants as source
@@ -63,8 +61,8 @@ unasked-present request (Some s) q = refl
 
 module _ (c : Caches) (holder : Holder) (a : Choice) (what : MemoryAccess) where
   -- the word is found where it is told, if it is told
-  abbrev IsFoundIf : Outcome → CacheUse → Type 0
-  IsFoundIf o how = IfSome (source_in o how) (IsFoundBy c holder a what how)
+  abbrev IsFoundIf : CacheUse → Type 0
+  IsFoundIf how = IfSome (source_in how) (IsFoundBy c holder a what how)
 
   module _ (line : ℕ) (accessed : line_accessed c what ≡ Some line) where
     -- where this request was made for the line, in this state of it
@@ -106,11 +104,11 @@ module _ (c : Caches) (holder : Holder) (a : Choice) (what : MemoryAccess) where
         by_transient ImD sent absent present = by_first ImD first refl sent (absent (λ q. let z : ⊥ = cc in z))
 
     -- an access that is made whole
-    whole-found : (o : Outcome) (write : Bool) → (next_in_place (table_of_rows c.rows) write (tag_at (chosen a) line c.contents) ≡ None → holder ≡ Free)
-        → IsFoundIf o (Through
+    whole-found : (write : Bool) → (next_in_place (table_of_rows c.rows) write (tag_at (chosen a) line c.contents) ≡ None → holder ≡ Free)
+        → IsFoundIf (Through
         (whole_in (table_of_rows c.rows) write (chosen a) line c.contents (tag_at (chosen a) line c.contents)
         (next_in_place (table_of_rows c.rows) write (tag_at (chosen a) line c.contents))).report)
-    whole-found o write free =
+    whole-found write free =
         by_next (tag_at (chosen a) line c.contents) (next_in_place (table_of_rows c.rows) write (tag_at (chosen a) line c.contents)) refl refl
       where
         t : Table
@@ -133,7 +131,7 @@ module _ (c : Caches) (holder : Holder) (a : Choice) (what : MemoryAccess) where
         by_next : (copy next : Option protocol.State)
             → tag_at (chosen a) line c.contents ≡ copy
             → next_in_place t write (tag_at (chosen a) line c.contents) ≡ next
-            → IsFoundIf o (Through (whole_in t write (chosen a) line c.contents copy next).report)
+            → IsFoundIf (Through (whole_in t write (chosen a) line c.contents copy next).report)
         by_next copy (Some next) copy_is is = record { line = line; accessed = accessed; copy = in-place write (tag_at (chosen a) line c.contents) next is }
         by_next copy None copy_is is =
             let none : next_in_place t write copy ≡ None = sym (ap (next_in_place t write) copy_is) ∙ is in
@@ -142,30 +140,29 @@ module _ (c : Caches) (holder : Holder) (a : Choice) (what : MemoryAccess) where
 
     -- an ask
     ask-found : (request : Request) → holder ≡ Free → tag_at (chosen a) line c.contents ≢ Some I
-        → IsFoundIf out.Asked
-        (asking_use (option_map (requesting (table_of_rows c.rows) request line c.contents) (asked_for request (chosen a) line c.contents)))
+        → IsFoundIf
+        (uses.Asked (option_map (requesting (table_of_rows c.rows) request line c.contents) (asked_for request (chosen a) line c.contents)))
     ask-found request free valid = by_transient (asked_for request (chosen a) line c.contents) refl
       where
         by_transient : (o : Option Transient)
             → asked_for request (chosen a) line c.contents ≡ o
-            → IsFoundIf out.Asked (asking_use (option_map (requesting (table_of_rows c.rows) request line c.contents) o))
+            → IsFoundIf (uses.Asked (option_map (requesting (table_of_rows c.rows) request line c.contents) o))
         by_transient None q = record { line = line; accessed = accessed; copy = unasked-present request (tag_at (chosen a) line c.contents) q }
         by_transient (Some x) q =
-            request-found (uses.Asked (requesting (table_of_rows c.rows) request line c.contents x)) request x refl free
+            request-found (uses.Asked (Some (requesting (table_of_rows c.rows) request line c.contents x))) request x refl free
             (λ n. asked-absent request (tag_at (chosen a) line c.contents) x valid q n) (λ e. asked-present request (tag_at (chosen a) line c.contents) x q e)
 
     -- a completion
-    completed-found : (o : Outcome)
-        → holder ≡ HeldBy a
+    completed-found : holder ≡ HeldBy a
         → MayComplete c.awaited (chosen a) line c.contents
-        → IsFoundIf o (Through (completed (table_of_rows c.rows) (chosen a) line c.awaited c.contents).report)
-    completed-found o held may = by_awaited c.awaited refl may
+        → IsFoundIf (Through (completed (table_of_rows c.rows) (chosen a) line c.awaited c.contents).report)
+    completed-found held may = by_awaited c.awaited refl may
       where
         by_transient : (y : Transient) (x : Awaited)
             → is_some c.awaited ≡ true
             → (y ≢ SmD → tag_at (chosen a) line c.contents ≡ None)
             → (y ≡ SmD → is_some (tag_at (chosen a) line c.contents) ≡ true)
-            → IsFoundIf o (Through (completed_in (table_of_rows c.rows) (chosen a) line y x.state x.flushed c.contents).report)
+            → IsFoundIf (Through (completed_in (table_of_rows c.rows) (chosen a) line y x.state x.flushed c.contents).report)
         by_transient SmD x some absent present = record { line = line; accessed = accessed; copy = present refl }
         by_transient _ x some absent present = record {
           holds = held;
@@ -178,76 +175,66 @@ module _ (c : Caches) (holder : Holder) (a : Choice) (what : MemoryAccess) where
         by_awaited : (w : Option Awaited)
             → c.awaited ≡ w
             → MayComplete w (chosen a) line c.contents
-            → IsFoundIf o (Through (completed (table_of_rows c.rows) (chosen a) line w c.contents).report)
+            → IsFoundIf (Through (completed (table_of_rows c.rows) (chosen a) line w c.contents).report)
         by_awaited None q may = record { line = line; accessed = accessed; copy = may }
         by_awaited (Some x) q may = by_transient x.transient x (ap is_some q) may.absent may.present
 
 -- ---- a choice on either bus
 
-abbrev FoundOf : Caches → Holder → Choice → MemoryAccess → Outcome → Used → Type 0
-FoundOf c holder a what o u = IsFoundIf c holder a what o u.how
-
--- nothing is told of a choice that neither asks nor uses the caches
-unused-untold : (c : Caches) (holder : Holder) (a : Choice) (what : MemoryAccess) (o : Outcome)
-    → o ≢ out.Asked
-    → FoundOf c holder a what o (not_through Unused c)
-unused-untold c holder a what out.Asked acted = absurd (acted refl)
-unused-untold c holder a what _ acted = tt
+abbrev FoundOf : Caches → Holder → Choice → MemoryAccess → Used → Type 0
+FoundOf c holder a what u = IsFoundIf c holder a what u.how
 
 -- an access that misses needs the bus
 missing-needs : (what : MemoryAccess) (hits : Bool) → what ≢ NoAccess → needs_bus what hits ≡ false → hits ≢ false
 missing-needs NoAccess hits some q e = some refl
 missing-needs what hits some q e = let z : true ≡ false = subst (λ b. needs_bus what b ≡ false) e q in let y : ⊥ = cc in y
 
-use-found : (on : Bus) (c : Caches) (holder next : Holder) (a : Choice) (what : MemoryAccess) (o : Outcome) (u : Used) → IsUseFor c (chosen a) what u
+use-found : (on : Bus) (c : Caches) (holder next : Holder) (a : Choice) (what : MemoryAccess) (u : Used) → IsUseFor c (chosen a) what u
     → ((on ≡ either.Atomic) × (holder ≡ Free) × (next ≡ Free)) ⊎ (needs_bus what (hits_by c (chosen a) what) ≡ false)
-    → o ≢ out.Asked
-    → FoundOf c holder a what o u
-use-found on c holder next a NoAccess o u (inl is) why acted = subst (FoundOf c holder a NoAccess o) (sym is) (unused-untold c holder a NoAccess o acted)
-use-found on c holder next a NoAccess o u (inr is) why acted = subst (FoundOf c holder a NoAccess o) (sym is) refl
-use-found on c holder next a what o u is (inl free) acted =
-    subst (FoundOf c holder a what o) (sym is) (whole-found c holder a what _ refl o (is_write_access what) (λ none. free.1))
-use-found on c holder next a what o u is (inr hit) acted =
-    subst (FoundOf c holder a what o) (sym is)
-    (whole-found c holder a what _ refl o (is_write_access what)
+    → FoundOf c holder a what u
+use-found on c holder next a NoAccess u (inl is) why = subst (FoundOf c holder a NoAccess) (sym is) tt
+use-found on c holder next a NoAccess u (inr is) why = subst (FoundOf c holder a NoAccess) (sym is) refl
+use-found on c holder next a what u is (inl free) =
+    subst (FoundOf c holder a what) (sym is) (whole-found c holder a what _ refl (is_write_access what) (λ none. free.1))
+use-found on c holder next a what u is (inr hit) =
+    subst (FoundOf c holder a what) (sym is)
+    (whole-found c holder a what _ refl (is_write_access what)
     (λ none.
     absurd (missing-needs what (hits_by c (chosen a) what) (λ q. (let z : ⊥ = cc in z)) hit (ap is_some none))))
 
 asks-found : (lines : ℕ) (c : Caches) (holder : Holder) (a : Choice) (what : MemoryAccess) → what ≢ NoAccess → holder ≡ Free → AllNeat lines c.contents
-    → FoundOf c holder a what out.Asked (asking_by c (chosen a) what)
+    → FoundOf c holder a what (asking_by c (chosen a) what)
 asks-found lines c holder a NoAccess some free neat = absurd (some refl)
 asks-found lines c holder a what some free neat =
     ask-found c holder a what _ refl (request_for (is_write_access what)) free
     (λ q. found-valid lines _ I (sets_of c.contents (chosen a)) (neat (chosen a)) q refl)
 
-completes-found : (c : Caches) (holder : Holder) (a : Choice) (what : MemoryAccess) (o : Outcome)
+completes-found : (c : Caches) (holder : Holder) (a : Choice) (what : MemoryAccess)
     → what ≢ NoAccess
     → holder ≡ HeldBy a
     → MayMake c (chosen a) what
-    → FoundOf c holder a what o (completing_by c (chosen a) what)
-completes-found c holder a NoAccess o some held may = absurd (some refl)
-completes-found c holder a what o some held may = completed-found c holder a what _ refl o held may
+    → FoundOf c holder a what (completing_by c (chosen a) what)
+completes-found c holder a NoAccess some held may = absurd (some refl)
+completes-found c holder a what some held may = completed-found c holder a what _ refl held may
 
 choice-found : (on : Bus) (lines : ℕ) (c : Caches) (a : Choice) (before after : Choice → MemoryAccess)
-    (holder next : Holder) (o : Outcome) (u : Used)
+    (holder next : Holder) (u : Used)
     → HolderMayMake before holder c
-    → AllNeat lines c.contents → UsesOn on c a before after holder next o u → FoundOf c holder a (before a) o u
-choice-found on lines c a before after holder next o u may neat (made it why stays acted) = use-found on c holder next a (before a) o u it why acted
-choice-found on lines c a before after holder next o u may neat (unused is stays acted) =
-    subst (FoundOf c holder a (before a) o) (sym is) (unused-untold c holder a (before a) o acted)
-choice-found on lines c a before after holder next o u may neat (begun split is outcome some free held same) =
-    subst (λ x. FoundOf c holder a (before a) x u) (sym outcome)
-    (subst (FoundOf c holder a (before a) out.Asked) (sym is) (asks-found lines c holder a (before a) some free neat))
-choice-found on lines c a before after holder next o u may neat (ended split is some held rest) =
-    subst (FoundOf c holder a (before a) o) (sym is) (completes-found c holder a (before a) o some held (subst (λ x. HolderMayMake before x c) held may))
+    → AllNeat lines c.contents → UsesOn on c a before after holder next u → FoundOf c holder a (before a) u
+choice-found on lines c a before after holder next u may neat (made it why stays) = use-found on c holder next a (before a) u it why
+choice-found on lines c a before after holder next u may neat (unused is stays) = subst (FoundOf c holder a (before a)) (sym is) tt
+choice-found on lines c a before after holder next u may neat (begun split is some free held same) =
+    subst (FoundOf c holder a (before a)) (sym is) (asks-found lines c holder a (before a) some free neat)
+choice-found on lines c a before after holder next u may neat (ended split is some held rest) =
+    subst (FoundOf c holder a (before a)) (sym is) (completes-found c holder a (before a) some held (subst (λ x. HolderMayMake before x c) held may))
 
 found-if : (m : Running) (choice : Choice)
     → IsKept m
-    → IfSome (source_in (machine_effect m choice).effect.outcome (machine_use m choice).how) (IsFoundAt m choice)
+    → IfSome (source_in (machine_use m choice).how) (IsFoundAt m choice)
 found-if m choice k =
     choice-found m.bus (number_of_lines m) m.statistics.caches choice (access_of m.test m.depth m.state.flat)
     (access_of m.test m.depth (machine_after m choice).state.flat)
-    m.state.holder (machine_after m choice).state.holder (machine_effect m choice).effect.outcome (machine_use m choice)
+    m.state.holder (machine_after m choice).state.holder (machine_use m choice)
     k.may k.neat (uses-of m choice k.sound).0
 
 found-at : (m : Running) (choice : Choice) (source : Source) → IsKept m → supplied_by m choice ≡ Some source → IsFoundAt m choice source
@@ -255,7 +242,7 @@ found-at m choice source k is =
     subst (λ o. IfSome o (IsFoundAt m choice)) (by_reads (reads_from m.test (core_of m.state.flat (chosen choice)).place choice) is) (found-if m choice k)
   where
     told : Option Source
-    told = source_in (machine_effect m choice).effect.outcome (machine_use m choice).how
+    told = source_in (machine_use m choice).how
 
     by_reads : (b : Bool) → (if b then told else None) ≡ Some source → told ≡ Some source
     by_reads true q = q
@@ -425,7 +412,7 @@ choice-reads : (m : Running) (choice : Choice) (s : Source) (loc : Loc)
     → access_of m.test m.depth m.state.flat choice ≢ Writes loc
 choice-reads m (Step core) s loc is =
     step-reads m.depth (next_of m.test m.state.flat core.0) (core_of m.state.flat core.0).pending loc
-    (source_in (machine_effect m (Step core)).effect.outcome (machine_use m (Step core)).how) s is
+    (source_in (machine_use m (Step core)).how) s is
 choice-reads m (Drain core) s loc is = absurd (let z : ⊥ = cc in z)
 
 -- ---- along the choices

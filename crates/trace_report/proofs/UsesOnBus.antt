@@ -5,12 +5,11 @@ use Rattle.trace_report.proofs.Vocabulary.{HeldBetween, BusEffect, needs_bus, ac
 use Rattle.trace_report.proofs.Vocabulary.{split_effect, BusState, Bus, Atomic, Split, Choice, Step, Entry, quiet-same, IsStore, AllStores}
 use Rattle.trace_report.proofs.Vocabulary.{access-kept, IsOther, HolderWaits, Unused, Caches, Used, not_through, asking_by, completing_by}
 use Rattle.trace_report.proofs.Vocabulary.{hits_by, attempt_of, is_awaited, used_between, use_on, state_after_on, IsUseFor, choice-use, sym}
-use Rattle.trace_report.proofs.Vocabulary.{Each, effect_on, Outcome, slice_index_or, set-get_or, idle, choice-stores, begins-by}
+use Rattle.trace_report.proofs.Vocabulary.{Each, slice_index_or, set-get_or, idle, choice-stores, begins-by}
 use Rattle.trace_report.proofs.Vocabulary.{completes-by, split-by, last-unused, needs-some}
 use Rattle.tso_terms.specs.declared.choice.Stall.TheVariants as stall
 use Rattle.tso_terms.specs.declared.choice.Outcome.TheVariants as out
 use Rattle.tso_laws.specs.inner.Pending.{PendingIsOwn}
-use Rattle.trace_report.proofs.Effects.{flat-unasked}
 
 -- ---- on either bus
 
@@ -21,32 +20,31 @@ pub record Stays (before after : Choice → MemoryAccess) (holder next : Holder)
   pub waits : is_awaited next ≡ is_awaited holder
 
 -- a choice makes its access whole, on the atomic bus or where none is needed; or makes none; or asks for it, and holds the bus; or
--- completes what it has asked for. No other asks
-pub data UsesOn (on : Bus) (c : Caches) (a : Choice) (before after : Choice → MemoryAccess) (holder next : Holder) (o : Outcome) (u : Used) : Type 0 where
+-- completes what it has asked for
+pub data UsesOn (on : Bus) (c : Caches) (a : Choice) (before after : Choice → MemoryAccess) (holder next : Holder) (u : Used) : Type 0 where
   made : IsUseFor c (chosen a) (before a) u
       → ((on ≡ Atomic) × (holder ≡ Free) × (next ≡ Free))
       ⊎ (needs_bus (before a) (hits_by c (chosen a) (before a)) ≡ false)
-      → Stays before after holder next → o ≢ out.Asked → UsesOn on c a before after holder next o u
-  unused : u ≡ not_through Unused c → Stays before after holder next → o ≢ out.Asked → UsesOn on c a before after holder next o u
+      → Stays before after holder next → UsesOn on c a before after holder next u
+  unused : u ≡ not_through Unused c → Stays before after holder next → UsesOn on c a before after holder next u
   begun : on ≡ Split
       → u ≡ asking_by c (chosen a) (before a)
-      → o ≡ out.Asked
       → before a ≢ NoAccess
       → holder ≡ Free
       → next ≡ HeldBy a
       → after a ≡ before a
-      → UsesOn on c a before after holder next o u
+      → UsesOn on c a before after holder next u
   ended : on ≡ Split
       → u ≡ completing_by c (chosen a) (before a)
       → before a ≢ NoAccess
       → holder ≡ HeldBy a
       → is_awaited next ≡ false
-      → UsesOn on c a before after holder next o u
+      → UsesOn on c a before after holder next u
 
 -- and its core's pending stores stay stores
 abbrev UsesBy : Bus → Litmus → ℕ → State → Caches → Choice → Holder → BusEffect → Type 0
 UsesBy on t d state c a holder f =
-    UsesOn on c a (access_of t d state) (access_of t d (applied state (chosen a) f.effect)) holder f.holder f.effect.outcome
+    UsesOn on c a (access_of t d state) (access_of t d (applied state (chosen a) f.effect)) holder f.holder
     (used_between (is_awaited holder) (is_awaited f.holder) c (chosen a) (access_of t d state a) (core_of state (chosen a)).pending f.effect.commits)
     × AllStores (applied state (chosen a) f.effect)
 
@@ -65,10 +63,10 @@ asks-uses : (t : Litmus) (d : ℕ) (state : State) (c : Caches) (a : Choice) (ho
     → UsesBy Split t d state c a holder (asks (core_of state (chosen a)) a holder)
 asks-uses t d state c a Free some stores =
     let same = quiet-same state (chosen a) out.Asked in
-    (begun refl refl refl some refl refl (ap (λ (s : State). access_of t d s a) same), subst AllStores (sym same) stores)
+    (begun refl refl some refl refl (ap (λ (s : State). access_of t d s a) same), subst AllStores (sym same) stores)
 asks-uses t d state c a holder some stores =
     let same = quiet-same state (chosen a) (out.Stalled stall.Bus) in
-    (unused refl (still t d state _ holder same) (λ q. (let z : ⊥ = cc in z)), subst AllStores (sym same) stores)
+    (unused refl (still t d state _ holder same), subst AllStores (sym same) stores)
 
 acts-uses : (on : Bus) (t : Litmus) (d : ℕ) (state : State) (c : Caches) (a : Choice) (holder : Holder) → AllStores state
     → ((on ≡ Atomic) × (holder ≡ Free) × (holder ≡ Free)) ⊎ (needs_bus (access_of t d state a) (hits_by c (chosen a) (access_of t d state a)) ≡ false)
@@ -78,10 +76,10 @@ acts-uses on t d state c a holder stores why stays = (by_waiting (is_awaited hol
   where
     by_waiting : (b : Bool)
         → UsesOn on c a (access_of t d state)
-        (access_of t d (applied state (chosen a) (effect_of t d state a))) holder holder (effect_of t d state a).outcome
+        (access_of t d (applied state (chosen a) (effect_of t d state a))) holder holder
         (used_between b b c (chosen a) (access_of t d state a) (core_of state (chosen a)).pending (effect_of t d state a).commits)
-    by_waiting true = made (choice-use t d state c a (own-stores state stores)) why stays (flat-unasked t d state a)
-    by_waiting false = made (choice-use t d state c a (own-stores state stores)) why stays (flat-unasked t d state a)
+    by_waiting true = made (choice-use t d state c a (own-stores state stores)) why stays
+    by_waiting false = made (choice-use t d state c a (own-stores state stores)) why stays
 
 -- another choice leaves the holder at its access
 other-stays : (t : Litmus) (d : ℕ) (state : State) (a : Choice) (holder : Holder) → HolderWaits Split t d state holder → IsOther holder a
@@ -126,7 +124,7 @@ writes-uses : (t : Litmus) (d : ℕ) (state : State) (c : Caches) (e : Entry)
     → UsesBy Split t d state c (Step e.core) (HeldBetween e) (writes_last t d state e)
 writes-uses t d state c e stores = (
   unused (last-unused c (core_of state e.core.0).pending d e.core.0 (as_read state e).memory (next_of t state e.core.0) (core_of state e.core.0))
-      (record { held = λ other q. absurd (let z : ⊥ = cc in z); waits = refl }) (flat-unasked t d (as_read state e) (Step e.core)),
+      (record { held = λ other q. absurd (let z : ⊥ = cc in z); waits = refl }),
   λ k. choice-stores t d (as_read state e) (Step e.core) stores k,
 )
 
@@ -142,7 +140,7 @@ pub choice-uses : (on : Bus) (t : Litmus) (d : ℕ) (state : BusState) (c : Cach
     → HolderWaits on t d state.flat state.holder
     → AllStores state.flat
     → UsesOn on c a (access_of t d state.flat) (access_of t d (state_after_on on t d state c a).flat) state.holder (state_after_on on t d state c a).holder
-    (effect_on on t d state (attempt_of t d state.flat c a)).effect.outcome (use_on on t d state a c) × AllStores (state_after_on on t d state c a).flat
+    (use_on on t d state a c) × AllStores (state_after_on on t d state c a).flat
 choice-uses Split t d state c a holding stores = split-uses t d state.flat c a state.holder holding stores
 choice-uses Atomic t d state c a holding stores = by_holder state.holder holding
   where

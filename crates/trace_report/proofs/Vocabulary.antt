@@ -118,7 +118,7 @@ pub use Rattle.trace_report.specs.OwnWords.{own_words, is_newer_in, own_word, ow
 pub use Rattle.trace_report.specs.MachineJson.{words_per_line, words_in_line, words_on_bus, copy_json, cached_lines_in, set_json, sets_json}
 pub use Rattle.trace_report.specs.MachineJson.{core_json, cores_json, holder_json, bus_json, machine_json, core_with}
 pub use Rattle.trace_report.specs.StepJson.{outcome_word, stall_in, step_json}
-pub use Rattle.trace_report.specs.Supplied.{supplier_text, source_of, source_in, source_unused, found_by, supplied_by}
+pub use Rattle.trace_report.specs.Supplied.{supplier_text, source_of, source_in, found_by, supplied_by}
 pub use Rattle.trace_report.specs.TraceJson.{Sourced, sourced_by, last_or, last_step_json, step_to, steps_json, start_json, trace_json, alone}
 pub use Rattle.trace_report.specs.declared.supplied.Source.{Source}
 pub use Rattle.tso_terms.specs.Condition.{Condition, condition_of}

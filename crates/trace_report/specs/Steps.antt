@@ -99,7 +99,7 @@ sent_with (Some q) = record { request = Some (record { request = q.request; line
 abbrev pub sent_by : CacheUse → Sent
 sent_by Unused = nothing_sent
 sent_by Forwarded = nothing_sent
-sent_by (uses.Asked request) = sent_with (Some request)
+sent_by (uses.Asked request) = sent_with request
 sent_by (Through r) = sent_with r.request
 
 -- ---- the states of lines

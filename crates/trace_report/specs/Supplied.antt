@@ -5,7 +5,7 @@ use Rattle.std.specs.Prelude.{ℕ, Bool, true, false, if◌then◌else◌, List,
 use Rattle.trace_report.specs.Vocabulary.{chosen, core_of, Instr, Litmus, printed_core, Running}
 use Rattle.tso_terms.specs.Actions.{action_of}
 use Rattle.tso_terms.specs.FlatMachine.{program_of}
-use Rattle.basic_laws.specs.Types.{Action, Choice, Step, Drain, Outcome, Committed, Buffered, Moved, Asked, Stalled}
+use Rattle.basic_laws.specs.Types.{Action, Choice, Step, Drain}
 use Rattle.tso_terms.specs.declared.action.Action.TheVariants as action
 use Rattle.snoop_bus.specs.declared.access.AccessKind.{AccessKind}
 use Rattle.snoop_bus.specs.declared.access.AccessKind.TheVariants.{Hit, Upgrade, Miss}
@@ -14,7 +14,7 @@ use Rattle.snoop_bus.specs.declared.access.Supplier.{Supplier}
 use Rattle.snoop_bus.specs.declared.access.Supplier.TheVariants as supplier
 use Rattle.multiprocessor.specs.declared.accesses.CacheUse.{CacheUse}
 use Rattle.multiprocessor.specs.declared.accesses.CacheUse.TheVariants as uses
-use Rattle.machine_core.specs.Running.{machine_effect, machine_use}
+use Rattle.machine_core.specs.Running.{machine_use}
 use Rattle.trace_report.specs.declared.supplied.Source.{Source}
 use Rattle.trace_report.specs.declared.supplied.Source.TheVariants.{Buffer, Cache, Other, Bus, Memory}
 
@@ -35,20 +35,13 @@ source_without Hit = Cache
 source_without Upgrade = Cache
 source_without Miss = Bus
 
--- a choice that doesn't use the caches; one that asks all the same is a write access that hits, so that its core has the line
-abbrev pub source_unused : Outcome → Option Source
-source_unused Committed = None
-source_unused Buffered = None
-source_unused Moved = None
-source_unused Asked = Some Cache
-source_unused (Stalled why) = None
-
--- of a choice with this outcome that had this to do with the caches
-abbrev pub source_in : Outcome → CacheUse → Option Source
-source_in outcome uses.Unused = source_unused outcome
-source_in outcome uses.Forwarded = Some Buffer
-source_in outcome (uses.Asked q) = Some (source_of q.supplier)
-source_in outcome (uses.Through r) = Some (source_by (source_without r.access.kind) r.request)
+-- of a choice that had this to do with the caches; one that asks without a request is a write access that hits, so that its core has
+-- the line
+abbrev pub source_in : CacheUse → Option Source
+source_in uses.Unused = None
+source_in uses.Forwarded = Some Buffer
+source_in (uses.Asked request) = Some (source_by Cache request)
+source_in (uses.Through r) = Some (source_by (source_without r.access.kind) r.request)
 
 -- an action that reads a word: a load, and a locked instruction
 abbrev pub action_reads : Action → Bool
@@ -68,14 +61,13 @@ abbrev pub reads_from : Litmus → ℕ → Choice → Bool
 reads_from t place (Step core) = reads_at (slice_get (program_of t core.0) place)
 reads_from t place (Drain core) = false
 
--- where the word is found that such a choice reads, which had this outcome and this to do with the caches; none where it reads nothing
-abbrev pub found_by : Litmus → ℕ → Choice → Outcome → CacheUse → Option Source
-found_by t place choice outcome how = if reads_from t place choice then source_in outcome how else None
+-- where the word is found that such a choice reads, which had this to do with the caches; none where it reads nothing
+abbrev pub found_by : Litmus → ℕ → Choice → CacheUse → Option Source
+found_by t place choice how = if reads_from t place choice then source_in how else None
 
 -- where the word is found that a choice on a machine reads, or asks for to read it
 abbrev pub supplied_by : Running → Choice → Option Source
-supplied_by m choice =
-    found_by m.test (core_of m.state.flat (chosen choice)).place choice (machine_effect m choice).effect.outcome (machine_use m choice).how
+supplied_by m choice = found_by m.test (core_of m.state.flat (chosen choice)).place choice (machine_use m choice).how
 
 -- `buffer`, `cache`, `P1`, `bus` and `memory`
 abbrev pub supplier_text : Source → List ℕ

@@ -32,7 +32,7 @@ line_accessed c what = at_access None (λ loc write. Some (loc.0 / c.shape.words
 abbrev pub request_made : CacheUse → Option BusRequest
 request_made uses.Unused = None
 request_made uses.Forwarded = None
-request_made (uses.Asked q) = Some q
+request_made (uses.Asked q) = q
 request_made (uses.Through r) = r.request
 
 -- its core has the line

@@ -24,7 +24,7 @@ pub fn sent_by(cache_use: CacheUse) -> Sent
 {
     match cache_use {
         CacheUse::Unused | CacheUse::Forwarded => sent_with(None),
-        CacheUse::Asked(request) => sent_with(Some(request)),
+        CacheUse::Asked(request) => sent_with(request),
         CacheUse::Through(report) => sent_with(report.request),
     }
 }

@@ -5,7 +5,7 @@ ghost use Rattle.std.specs.Prelude.{◌≡◌, ◌<◌, IfOk, length, option_map
 ghost use Rattle.serde_json.specs.View.{view};
 ghost use Rattle.tso_terms.specs.Actions.{action_of};
 ghost use Rattle.tso_terms.specs.FlatMachine.{chosen};
-ghost use Rattle.trace_report.specs.Supplied.{action_reads, found_by, reads_from, source_by, source_in, source_of, source_unused, source_without};
+ghost use Rattle.trace_report.specs.Supplied.{action_reads, found_by, reads_from, source_by, source_in, source_of, source_without};
 ghost use Rattle.trace_report.specs.Supplied.{supplier_text};
 ghost use Rattle.trace_report.specs.JsonValues.{text_or_null};
 
@@ -15,7 +15,7 @@ use serde_json::Value;
 use snoop_bus::{AccessKind, BusRequest, Supplier};
 use std::alloc::Global;
 use tso_report::members::word_value;
-use tso_terms::{Action, Choice, Core, Instr, NoMemory, Outcome, Test};
+use tso_terms::{Action, Choice, Core, Instr, NoMemory, Test};
 
 /// Where a core finds a word that it reads.
 #[derive(Clone, Copy)]
@@ -32,20 +32,14 @@ pub enum Source {
     Memory,
 }
 
-/// Where the word is found that a choice at this place of its core's program reads, which had this outcome and this to do with
-/// the caches. `None` where it reads none.
-pub fn found_by(
-    test: &Test,
-    place: u8,
-    choice: Choice,
-    outcome: Outcome,
-    cache_use: CacheUse,
-) -> Option<Source>
+/// Where the word is found that a choice at this place of its core's program reads, which had this to do with the caches.
+/// `None` where it reads none.
+pub fn found_by(test: &Test, place: u8, choice: Choice, cache_use: CacheUse) -> Option<Source>
     requires { chosen choice < length test.now.programs }
-    ensures { result ≡ found_by test.now place choice outcome cache_use }
+    ensures { result ≡ found_by test.now place choice cache_use }
 {
     if reads_from(test, place, choice) {
-        source_in(outcome, cache_use)
+        source_in(cache_use)
     } else {
         None
     }
@@ -75,29 +69,19 @@ fn reads_word(instr: Instr) -> bool
     }
 }
 
-/// Where the word was found that a choice with this outcome and this use of the caches read.
-fn source_in(outcome: Outcome, cache_use: CacheUse) -> Option<Source>
-    ensures { result ≡ source_in outcome cache_use }
+/// Where the word was found that a choice with this use of the caches read. One that asks without a request is a write
+/// access that hits, so that its core has the line.
+fn source_in(cache_use: CacheUse) -> Option<Source>
+    ensures { result ≡ source_in cache_use }
 {
     match cache_use {
-        CacheUse::Unused => source_unused(outcome),
+        CacheUse::Unused => None,
         CacheUse::Forwarded => Some(Source::Buffer),
-        CacheUse::Asked(request) => Some(source_of(request.supplier)),
+        CacheUse::Asked(request) => Some(source_by(Source::Cache, request)),
         CacheUse::Through(report) => {
             let otherwise = source_without(report.access.kind);
             Some(source_by(otherwise, report.request))
         }
-    }
-}
-
-/// Where a choice finds its word for which nothing went on the bus and which made no access: one that asks is a write access
-/// that hits, so that its core has the line.
-fn source_unused(outcome: Outcome) -> Option<Source>
-    ensures { result ≡ source_unused outcome }
-{
-    match outcome {
-        Outcome::Asked => Some(Source::Cache),
-        Outcome::Committed | Outcome::Buffered | Outcome::Moved | Outcome::Stalled(_) => None,
     }
 }
 

@@ -133,7 +133,7 @@ pub fn tell_or_stall<P: Protocol>(
         moved: moved_in(machine, test, choice, place),
         forwarded,
         access,
-        supplied: found_by(test, place, choice, outcome, cache_use),
+        supplied: found_by(test, place, choice, cache_use),
         request: sent.request,
         flushed: sent.flushed,
         wrote_back: written_back(cache_use, lines),

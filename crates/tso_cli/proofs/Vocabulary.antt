@@ -117,4 +117,4 @@ pub use Rattle.explorer.specs.FinalStates.{AreReached, HaveEveryEnd, HasMoreStat
 pub use Rattle.explorer.specs.declared.final_states.FinalState.{FinalState}
 pub use Rattle.tso_cli.specs.Verdicts.{status_of_verdict}
 pub use Rattle.search_report.specs.PrintedReasons.{ShowsExecution, unfinished_cases_in}
-pub use Rattle.search_report.specs.ShortReports.{short_refutation_in}
+pub use Rattle.search_report.specs.RefutationReports.{refutation_in}

@@ -6,11 +6,11 @@ use Rattle.tso_cli.proofs.Vocabulary.{printed_choices, Explanation, IsWhyAnswer,
 use Rattle.tso_cli.proofs.Vocabulary.{HeadlineOfReasons}
 use Rattle.basic_laws.specs.Types.{Quantifier, Forall}
 use Rattle.refutation_laws.specs.Refutations.{asked_claim}
-use Rattle.short_refutations.specs.Refutations.{Lemma, Node, refutes}
+use Rattle.lemma_refutations.specs.Refutations.{Lemma, Node, refutes}
 use Rattle.refutation_laws.specs.declared.model.Model.{Model}
 use Rattle.refutation_laws.specs.declared.model.Model.TheVariants.{Tso, Sequential}
 use Rattle.search_report.specs.ReasonText.{truth_asked}
-use Rattle.search_report.specs.ShortReports.{short_refutation_in}
+use Rattle.search_report.specs.RefutationReports.{refutation_in}
 use Rattle.tso_cli.specs.Why.{IsAllowedAnswer, never, allowed, too_many}
 use Rattle.tso_cli.specs.WhyHeadline.{IsSoIn, IsDepthOf, never, allowed, too_many}
 use Rattle.tso_cli.proofs.WitnessLemmas.{Reaching, choices-few}
@@ -81,7 +81,7 @@ pub refutation-means : (t : Litmus) (model : Model) (json : Bool) (lemmas : List
     → Refuting
     → IsTest t
     → refutes model t (asked_claim t.condition) lemmas tree ≡ true
-    → PrintsRefutation t model json (short_refutation_in json model t lemmas tree)
+    → PrintsRefutation t model json (refutation_in json model t lemmas tree)
 refutation-means t model json lemmas tree laws test refuted = record {
   lemmas = lemmas;
   tree = tree;

@@ -9,7 +9,7 @@ pub use Rattle.basic_laws.specs.Types.{Atomic, Split, Choice, Entry}
 pub use Rattle.tso_laws.specs.Along.{choices_along, LeadTo}
 pub use Rattle.tso_laws.specs.Outcomes.{IsEnd, LeadToEnd}
 pub use Rattle.refutation_laws.specs.declared.model.Model.{Model}
-pub use Rattle.short_reasons.specs.Reasons.{HasMoreCases, most_cases}
+pub use Rattle.found_reasons.specs.Reasons.{HasMoreCases, most_cases}
 pub use Rattle.litmus_reader.specs.Spelling.{SpellsTest}
 pub use Rattle.litmus_tokens.specs.declared.instructions.Instructions.{Instructions}
 pub use Rattle.litmus_reader.specs.declared.fault.TextFault.{TextFault}
@@ -47,7 +47,7 @@ pub use Rattle.search_report.specs.MetOutcomes.{unfinished_search_in}
 pub use Rattle.search_report.specs.PrintedOutcomes.{outcomes_in}
 pub use Rattle.search_report.specs.Verdict.{is_as_claimed}
 pub use Rattle.search_report.specs.PrintedReasons.{ShowsExecution, unfinished_cases_in}
-pub use Rattle.search_report.specs.ShortReports.{short_refutation_in}
+pub use Rattle.search_report.specs.RefutationReports.{refutation_in}
 pub use Rattle.command_line.specs.Explanation.{Explanation}
 pub use Rattle.command_line.specs.Instructions.{instructions_of}
 pub use Rattle.command_line.specs.Search.{Search}

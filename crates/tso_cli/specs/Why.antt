@@ -4,10 +4,10 @@ use Rattle.std.specs.Prelude.{◌≡◌, ◌<◌, ℕ, Bool, true, false, List}
 use Rattle.tso_cli.specs.Vocabulary.{Choice, Entry, is_as_claimed, LeadTo, Litmus}
 use Rattle.refutation_laws.specs.Refutations.{asked_claim}
 use Rattle.refutation_laws.specs.Models.{IsMet, depth_of}
-use Rattle.short_refutations.specs.Refutations.{Lemma, Node, refutes}
-use Rattle.short_reasons.specs.Reasons.{HasMoreCases, most_cases}
+use Rattle.lemma_refutations.specs.Refutations.{Lemma, Node, refutes}
+use Rattle.found_reasons.specs.Reasons.{HasMoreCases, most_cases}
 use Rattle.search_report.specs.PrintedReasons.{ShowsExecution, unfinished_cases_in}
-use Rattle.search_report.specs.ShortReports.{short_refutation_in}
+use Rattle.search_report.specs.RefutationReports.{refutation_in}
 use Rattle.command_line.specs.Explanation.{Explanation}
 use Rattle.tso_cli.specs.declared.answer.Status.{Status}
 use Rattle.tso_cli.specs.declared.answer.Status.TheVariants.{Unended}
@@ -25,7 +25,7 @@ pub record IsAllowedAnswer (t : Litmus) (e : Explanation) (json : Bool) (out : L
 -- the answer of `why` to a test: which of the refutations is printed, or which of the executions, no clause says
 pub data IsWhyAnswer (t : Litmus) (e : Explanation) (json assert : Bool) : List ℕ → Status → Type 0 where
   never : (lemmas : List Lemma) (tree : List Node) → refutes e.model t (asked_claim t.condition) lemmas tree ≡ true
-      → IsWhyAnswer t e json assert (short_refutation_in json e.model t lemmas tree) (status_of_verdict assert (is_as_claimed t.condition false))
+      → IsWhyAnswer t e json assert (refutation_in json e.model t lemmas tree) (status_of_verdict assert (is_as_claimed t.condition false))
   allowed : (out : List ℕ) → IsAllowedAnswer t e json out
       → IsWhyAnswer t e json assert out (status_of_verdict assert (is_as_claimed t.condition true))
   too_many : HasMoreCases e.model t e.cases → e.cases < most_cases t

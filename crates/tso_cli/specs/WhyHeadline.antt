@@ -2,13 +2,13 @@
 -- (Primer, chapter 4, for the axioms of TSO, and chapter 3 for sequential consistency; Herding Cats, section 4, for the refutation.)
 use Rattle.std.specs.Prelude.{ℕ, ◌<◌, ◌≡◌, Bool, true, List, length, Option, Some, None}
 use Rattle.tso_cli.specs.Vocabulary.{Choice, HasMoreCases, Condition, Entry, Explanation, final_registers, final_words, LeadTo, Litmus}
-use Rattle.tso_cli.specs.Vocabulary.{Model, most_cases, printed_choices, run, short_refutation_in, ShowsExecution, SpellsChoices, truth_of}
+use Rattle.tso_cli.specs.Vocabulary.{Model, most_cases, printed_choices, run, refutation_in, ShowsExecution, SpellsChoices, truth_of}
 use Rattle.tso_cli.specs.Vocabulary.{unfinished_cases_in}
 use Rattle.tso_terms.specs.FlatMachine.{registers_in}
 use Rattle.tso_laws.specs.EndedRuns.{End}
 use Rattle.refutation_laws.specs.Models.{IsExecutionOf, depth_of}
 use Rattle.refutation_laws.specs.Refutations.{asked_claim}
-use Rattle.short_refutations.specs.Refutations.{Lemma, Node, refutes}
+use Rattle.lemma_refutations.specs.Refutations.{Lemma, Node, refutes}
 use Rattle.refutation_laws.specs.declared.model.Model.TheVariants.{Tso, Sequential}
 use Rattle.search_report.specs.ReasonText.{truth_asked}
 
@@ -27,7 +27,7 @@ IsDepthOf Sequential depth = depth ≡ 0
 pub record PrintsRefutation (t : Litmus) (model : Model) (json : Bool) (out : List ℕ) : Type 0 where
   pub lemmas : List Lemma
   pub tree : List Node
-  pub printed : out ≡ short_refutation_in json model t lemmas tree
+  pub printed : out ≡ refutation_in json model t lemmas tree
   pub refuted : refutes model t (asked_claim t.condition) lemmas tree ≡ true
   pub executions : (order : List Entry) → IsExecutionOf model t order → ¬ IsSoIn t.condition (final_registers t order) (final_words t order)
   pub runs : (depth : ℕ) (choices : List Choice) → IsDepthOf model depth → End t depth choices

@@ -15,13 +15,13 @@ ghost use Rattle.tso_cli.specs.declared.answer.Status.{Status};
 ghost use Rattle.command_line.specs.declared.settings.Settings.{Settings};
 
 use axiom_checker::first_breaches::{first_breach_is_one, first_breach_is_real};
+use lemma_refutations::{no_run_meets_what_is_refuted, refutations_by_lemmas_are_sound};
 use litmus_reader::test_texts::test_is_spelled_once;
 use machine_runs::ended_runs_of_machines_are_executions;
 use order_builder::order_texts::{order_can_be_printed, order_is_spelled_once};
 use refutation_laws::refuted_questions_are_answered;
 use scheduler::{printed_choices_are_spelled, texts_are_decided};
 use search_report::alike_outcomes::outcomes_of_the_same_values_are_alike;
-use short_refutations::{no_run_meets_what_is_refuted, short_refutations_are_sound};
 use tso_laws::{
     atomic_runs_are_flat_runs, choices_to_an_end_are_counted, ends_are_what_tso_allows,
     every_execution_is_reached, runs_are_counted, runs_on_either_bus_stop_where_they_end,
@@ -89,6 +89,6 @@ pub fn answers_meet_the_headline()
     ends_are_what_tso_allows();
     choices_to_an_end_are_counted();
     refuted_questions_are_answered();
-    short_refutations_are_sound();
+    refutations_by_lemmas_are_sound();
     no_run_meets_what_is_refuted();
 }

@@ -7,10 +7,10 @@ ghost use Rattle.tso_cli.specs.Why.{IsWhyAnswer};
 
 use crate::answer::{Answer, Status};
 use command_line::ReasonPlan;
+use found_reasons::{Reason, choices_to, explain};
 use hints::Cause;
 use search_report::verdict::is_as_claimed;
-use search_report::{allowed_report, short_refutation_report, unfinished_cases_report};
-use short_reasons::{Reason, choices_to, explain};
+use search_report::{allowed_report, refutation_report, unfinished_cases_report};
 use std::alloc::Global;
 use tso_terms::{NoMemory, Prop, Test};
 
@@ -50,7 +50,7 @@ fn reason_answer<'t>(
     let cases = plan.cases();
     match explain(alloc, test, model, cases as usize)? {
         Reason::Never(lemmas, tree) => {
-            let text = short_refutation_report(alloc, test, always, model, &lemmas, &tree, json)?;
+            let text = refutation_report(alloc, test, always, model, &lemmas, &tree, json)?;
             Ok(Answer {
                 text,
                 status: Status::of_verdict(assert, is_as_claimed(test, false)),

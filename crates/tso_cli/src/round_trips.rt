@@ -34,10 +34,10 @@ ghost use Rattle.command_line.specs.declared.settings.Settings.{Settings};
 
 use crate::answers::texts_are_read_one_way;
 use axiom_checker::first_breaches::first_breach_is_real;
+use lemma_refutations::{no_run_meets_what_is_refuted, refutations_by_lemmas_are_sound};
 use machine_runs::ended_runs_of_machines_are_executions;
 use refutation_laws::refuted_questions_are_answered;
 use scheduler::printed_choices_are_spelled;
-use short_refutations::{no_run_meets_what_is_refuted, short_refutations_are_sound};
 use tso_laws::{
     atomic_runs_are_flat_runs, choices_to_an_end_are_counted, ends_are_what_tso_allows,
     every_execution_is_reached, most_stores_are_depth_enough, runs_are_counted,
@@ -167,6 +167,6 @@ pub fn reasons_reach_their_executions()
     printed_choices_are_spelled();
     joined_parts_are_separated();
     refuted_questions_are_answered();
-    short_refutations_are_sound();
+    refutations_by_lemmas_are_sound();
     no_run_meets_what_is_refuted();
 }

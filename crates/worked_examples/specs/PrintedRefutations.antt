@@ -7,8 +7,8 @@ use Rattle.order_builder.specs.PrintedOrder.{printed_lines}
 use Rattle.basic_laws.specs.Types.{R}
 use Rattle.tso_terms.specs.Examples.{loc_x, loc_y}
 use Rattle.possible_reads.specs.Facts.{Before}
-use Rattle.short_refutations.specs.Refutations.{Node, Asks, Globally, ReadsFrom}
-use Rattle.short_refutations.specs.Worked.{counter_of_three, counts_two, lock_of_three, none_has_it, second_first_and_last, exchanged_in_turn, two_have_it}
+use Rattle.lemma_refutations.specs.Refutations.{Node, Asks, Globally, ReadsFrom}
+use Rattle.lemma_refutations.specs.Worked.{counter_of_three, counts_two, lock_of_three, none_has_it, second_first_and_last, exchanged_in_turn, two_have_it}
 use Rattle.worked_examples.specs.PrintedExecutions.{asking}
 
 -- message passing: the flag is read as set, and x as not yet stored

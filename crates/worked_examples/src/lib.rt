@@ -49,7 +49,7 @@ pub use printed_outcomes::{
     worked_decided_verdicts, worked_met_states, worked_printed_states, worked_shown_values,
     worked_verdicts,
 };
-pub use printed_refutations::worked_short_reasons;
+pub use printed_refutations::worked_printed_refutations;
 pub use refusals::{
     worked_ending_refusals, worked_header_refusals, worked_initial_refusals,
     worked_larger_refusals, worked_limits_of_texts, worked_table_refusals,

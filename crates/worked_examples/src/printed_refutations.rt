@@ -2,8 +2,8 @@
 
 ghost use Rattle.std.specs.Prelude.{◌≡◌, []};
 ghost use Rattle.refutation_laws.specs.declared.model.Model.TheVariants.{Tso};
-ghost use Rattle.short_refutations.specs.Worked.{passing_refuted, lost_refuted, two_refuted, first_two, two_refuted_by_lemma, none_refuted};
-ghost use Rattle.short_refutations.specs.Worked.{counts_two_refuted, turns_refuted};
+ghost use Rattle.lemma_refutations.specs.Worked.{passing_refuted, lost_refuted, two_refuted, first_two, two_refuted_by_lemma, none_refuted};
+ghost use Rattle.lemma_refutations.specs.Worked.{counts_two_refuted, turns_refuted};
 ghost use Rattle.search_report.specs.LineText.{never_text};
 ghost use Rattle.search_report.specs.LineJson.{never_json};
 ghost use Rattle.worked_examples.specs.PrintedExecutions.{passing_asked, between_asked, n6_asked};
@@ -14,7 +14,7 @@ ghost use Rattle.worked_examples.specs.PrintedRefutations.{n6_tree, n6_lines};
 /// What is printed of these, byte for byte: message passing, as JSON too; a locked addition; a lock that two of three cores have, once
 /// more with a lemma, and one that none has; a counter of three that counts two; a word of an exchange that nobody reads; what n6 doesn't
 /// allow, behind a question that isn't needed.
-pub fn worked_short_reasons()
+pub fn worked_printed_refutations()
     ensures passing { never_text Tso passing_asked [] passing_refuted ≡ passing_lines }
     ensures passing_json { never_json Tso passing_asked [] passing_refuted ≡ passing_value }
     ensures lost { never_text Tso between_asked [] lost_refuted ≡ lost_lines }

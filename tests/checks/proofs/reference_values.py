@@ -1,6 +1,6 @@
 """What the second program (tests/reference) makes of definitions: for each of them a function of the values of
 tests/checks/proofs/computed_terms.py."""
-from reference import (axioms, candidates, choices, conditions, lexing, litmus, machine, possible, reading, refutations, short_refutations,
+from reference import (axioms, candidates, choices, conditions, lexing, litmus, machine, possible, reading, refutations, lemma_refutations,
                        witness)
 from reference.orders import Entry
 
@@ -306,7 +306,7 @@ def refutes(model, t, claim, nodes):
     return truth(not left)
 
 
-# ---- short refutations
+# ---- refutations by lemmas
 
 def optional_event(made):
     return None if made == NONE else candidates.bare(entry_of(made[1]))
@@ -333,8 +333,8 @@ def answers_at(judging, board, name, given):
         return [[fact_of(given[0])], [possible.opposite(fact_of(given[0]))]]
     if name == "HasCase":
         return judging.programs.cases_of(*board.facts[given[0]])
-    questions = {"ReadsFrom": (short_refutations.sources_of, entry_of), "ReadsValue": (short_refutations.values_of, entry_of),
-                 "ComesLast": (short_refutations.lasts_of, int), "IsReadBy": (short_refutations.readers_of, int, optional_event)}
+    questions = {"ReadsFrom": (lemma_refutations.sources_of, entry_of), "ReadsValue": (lemma_refutations.values_of, entry_of),
+                 "ComesLast": (lemma_refutations.lasts_of, int), "IsReadBy": (lemma_refutations.readers_of, int, optional_event)}
     if name in questions:
         asked, *readers = questions[name]
         return asked(board, *(read(one) for read, one in zip(readers, given)))
@@ -357,16 +357,16 @@ def close(judging, board, nodes):
     return not boards
 
 
-def refutes_shortly(model, t, claim, lemmas, nodes):
+def refutes_by_lemmas(model, t, claim, lemmas, nodes):
     test = test_of(t)
     test.quantifier, test.proposition = "exists", proposition_of(claim)
-    judging = short_refutations.Judge(test, MODELS[model[0]])
+    judging = lemma_refutations.Judge(test, MODELS[model[0]])
     try:
         for lemma in lemmas:
             facts = list(map(fact_of, lemma["facts"]))
             if not close(judging, judging.board(facts), lemma["tree"]):
                 return truth(False)
-            judging.lemmas.append(short_refutations.Lemma(facts, None, None))
+            judging.lemmas.append(lemma_refutations.Lemma(facts, None, None))
         return truth(close(judging, judging.board(), nodes))
     except (refutations.Wrong, IndexError):
         return truth(False)
@@ -380,7 +380,7 @@ def readings(t, facts):
     """What the facts leave possible for each read, as rounds tell it."""
     rows = possible.Programs(test_of(t)).board(tuple(map(fact_of, facts))).rows
     return tuple(Record(read=entry_value(read), sources=tuple(optional(source and entry_value(source)) for source in sources),
-                        values=optional(None if values is None else tuple(values))) for read, (sources, values) in rows.items())
+                        values=optional(None if values is None else tuple(values)), least=least) for read, (sources, values, least) in rows.items())
 
 
 VOICES = {
@@ -399,7 +399,7 @@ VOICES = {
     ("tso_laws.specs.Along", "choices_along"): curried(2, lambda t, order: tuple(
         map(choice_value, witness.choices_along(test_of(t), list(map(entry_of, order)))))),
     ("refutation_laws.specs.Refutations", "refutes"): curried(4, refutes),
-    ("short_refutations.specs.Refutations", "refutes"): curried(5, refutes_shortly),
+    ("lemma_refutations.specs.Refutations", "refutes"): curried(5, refutes_by_lemmas),
     ("possible_reads.specs.Possible", "readings"): curried(2, readings),
     ("relational_model.specs.Model", "IsAllowed"): curried(2, lambda t, c: not faults(candidates.TSO, t, c)),
     ("relational_model.specs.Model", "IsForbidden"): curried(2, is_forbidden),

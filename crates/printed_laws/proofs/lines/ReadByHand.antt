@@ -4,9 +4,9 @@ use Rattle.printed_laws.proofs.Vocabulary.{Some, slice_get, append_assoc, append
 use Rattle.relational_model.proofs.KindFacts.{and-both}
 use Rattle.refutation_laws.proofs.Tests.{and-of}
 use Rattle.possible_reads.specs.Facts.{Fact, given_by}
-use Rattle.short_refutations.specs.Edges.{Knowledge}
-use Rattle.short_refutations.specs.Refutations.{Node, ReadsFrom, ReadsValue, Asks, IsReadBy, ComesLast, HasCase, OnLocation, Globally}
-use Rattle.short_refutations.specs.Refutations.{Between, FalseClaim, ByLemma, Lemma, answers, applies, close, hold, is_node, known_from}
+use Rattle.lemma_refutations.specs.Edges.{Knowledge}
+use Rattle.lemma_refutations.specs.Refutations.{Node, ReadsFrom, ReadsValue, Asks, IsReadBy, ComesLast, HasCase, OnLocation, Globally}
+use Rattle.lemma_refutations.specs.Refutations.{Between, FalseClaim, ByLemma, Lemma, answers, applies, close, hold, is_node, known_from}
 use Rattle.search_report.specs.Lines.{Line, question_word}
 use Rattle.printed_laws.specs.ByHand.{HasClosedCase, HasOpenCase, HaveCases, LinesRefuteInTurn, LinesRefuteWithin, RefutingLinesAreRefutations}
 

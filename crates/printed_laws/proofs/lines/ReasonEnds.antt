@@ -5,9 +5,9 @@ use Rattle.printed_laws.proofs.Vocabulary.{printed_quantifier, printed_truth, te
 use Rattle.printed_laws.proofs.Vocabulary.{escape_byte, Choice, by_line, state_line, is_well, outcomes_verdict_value, verdict_line}
 use Rattle.printed_laws.proofs.Vocabulary.{Candidate, asked_claim, Model, model_name, truth_asked, asked_line, never_line, blanks}
 use Rattle.printed_laws.proofs.Vocabulary.{from_line, reads_of, coherence_lines, values_left, allowed_value, unfinished_reason_json}
-use Rattle.short_refutations.specs.Refutations.{Lemma, Node}
+use Rattle.lemma_refutations.specs.Refutations.{Lemma, Node}
 use Rattle.search_report.specs.PrintedReasons.{allowed_in, unfinished_cases_in}
-use Rattle.search_report.specs.ShortReports.{short_refutation_in}
+use Rattle.search_report.specs.RefutationReports.{refutation_in}
 use Rattle.search_report.specs.ShownText.{closing_text, facts_text}
 use Rattle.search_report.specs.Lines.{Line, Given, Never, Case, So, Leaf, Endcases, refutation_lines, leaves_in}
 use Rattle.search_report.specs.LineText.{case_text, line_text}
@@ -46,7 +46,7 @@ verdict-behind c condition truth text is feed =
 -- ---- either form
 
 pub refutation-end : (json : Bool) (model : Model) (t : Litmus) (condition : Condition) (lemmas : List Lemma) (tree : List Node) → t.condition ≡ Some condition
-    → EndsIn (verdict_tail json (is_well condition.quantifier false)) (short_refutation_in json model t lemmas tree)
+    → EndsIn (verdict_tail json (is_well condition.quantifier false)) (refutation_in json model t lemmas tree)
 refutation-end false model t condition lemmas tree is =
     let ls = refutation_lines model t (asked_claim t.condition) lemmas tree in
     let tail = verdict_tail false (is_well condition.quantifier false) in

@@ -5,7 +5,7 @@ use Rattle.printed_laws.proofs.Vocabulary.{append-nil, length-append, length-map
 use Rattle.printed_laws.proofs.Vocabulary.{Model, asked_claim}
 use Rattle.relational_model.proofs.KindFacts.{and-both}
 use Rattle.possible_reads.specs.Facts.{Fact, given_by}
-use Rattle.short_refutations.specs.Refutations.{Node, Lemma, answers, close, hold, is_node, known_from}
+use Rattle.lemma_refutations.specs.Refutations.{Node, Lemma, answers, close, hold, is_node, known_from}
 use Rattle.search_report.specs.Shown.{Closing, ShownFact, shown_facts}
 use Rattle.search_report.specs.ShownText.{closing_text}
 use Rattle.search_report.specs.Lines.{Line, Case, So, Endcases, Branch, Closed, Open, Part, IsClosed, IsOpen, branches_below, closed_among}

@@ -17,10 +17,10 @@ ghost use Rattle.refutation_laws.specs.Refutations.{asked_claim};
 ghost use Rattle.refutation_laws.specs.declared.model.Model.{Model};
 ghost use Rattle.scheduler.specs.Grammar.{SpellsChoices};
 ghost use Rattle.scheduler.specs.Printed.{printed_choices};
-ghost use Rattle.short_refutations.specs.Refutations.{Lemma, Node, refutes};
-ghost use Rattle.short_reasons.specs.Reasons.{HasMoreCases, most_cases};
+ghost use Rattle.lemma_refutations.specs.Refutations.{Lemma, Node, refutes};
+ghost use Rattle.found_reasons.specs.Reasons.{HasMoreCases, most_cases};
 ghost use Rattle.search_report.specs.PrintedReasons.{allowed_in, unfinished_cases_in};
-ghost use Rattle.search_report.specs.ShortReports.{short_refutation_in};
+ghost use Rattle.search_report.specs.RefutationReports.{refutation_in};
 ghost use Rattle.command_line.specs.Explanation.{Explanation, IsExplanationWithinLimits};
 ghost use Rattle.command_line.specs.declared.settings.Settings.{Settings};
 ghost use Rattle.tso_cli.specs.Dividing.{parts_of};
@@ -39,7 +39,7 @@ use tso_cli::headline_laws::headlines_leave_one_text;
 /// A printed refutation is that of lemmas and a tree that refute.
 pub fn a_printed_refutation_refutes()
     ensures { (t : Litmus) (model : Model) (json : Bool) (out : List ℕ) → PrintsRefutation t model json out
-        → (lemmas : List Lemma) × (tree : List Node) × (out ≡ short_refutation_in json model t lemmas tree)
+        → (lemmas : List Lemma) × (tree : List Node) × (out ≡ refutation_in json model t lemmas tree)
         × (refutes model t (asked_claim t.condition) lemmas tree ≡ true) }
 {}
 

@@ -10,7 +10,7 @@ ghost use Rattle.refutation_laws.specs.Models.{IsExecutionOf};
 ghost use Rattle.refutation_laws.specs.Refutations.{asked_claim};
 ghost use Rattle.refutation_laws.specs.declared.model.Model.{Model};
 ghost use Rattle.possible_reads.specs.Facts.{Fact, given_by};
-ghost use Rattle.short_refutations.specs.Refutations.{Lemma, Node, answers, is_impossible, is_node, known_from, refutes};
+ghost use Rattle.lemma_refutations.specs.Refutations.{Lemma, Node, answers, is_impossible, is_node, known_from, refutes};
 ghost use Rattle.tso_report.specs.Tally.{shown_value};
 ghost use Rattle.search_report.specs.FalseLines.{IsAsGiven};
 ghost use Rattle.search_report.specs.LineJson.{line_value, never_json, never_json_line};
@@ -29,9 +29,9 @@ ghost use Rattle.told_reasons.specs.ReasonFormats.{line_format};
 ghost use Rattle.told_reasons.specs.ShownLines.{LineFits, LineIsChained, shown_asked, shown_line};
 
 use formats::{data_has_no_float, texts_tell_their_values};
+use lemma_refutations::refutations_by_lemmas_are_sound;
 use printed_laws::{printed_lines_refute, reasons_tell_their_tests};
 use search_report::false_lines_are_so;
-use short_refutations::short_refutations_are_sound;
 use told_reasons::{lines_are_of_one_format, printed_reasons_are_told};
 
 /// What is printed of a refutation, as lines or as JSON, is made of lines that refute; and what lines refute is true of no execution.
@@ -45,7 +45,7 @@ pub fn a_reason_is_read_by_hand()
         → truth_of (final_registers t order) (final_words t order) claim ≡ false }
 {
     printed_lines_refute();
-    short_refutations_are_sound();
+    refutations_by_lemmas_are_sound();
 }
 
 /// What the claim gives comes first, and each lemma's line before its part.

@@ -1,6 +1,6 @@
-//! What the laws of short refutations say of claims, final states, executions and runs, each said again.
+//! What the laws of refutations by lemmas say of claims, final states, executions and runs, each said again.
 
-ghost use Rattle.std.specs.Prelude.{◌==◌, ◌≡◌, List, None, Some, false, length, true, ℕ};
+ghost use Rattle.std.specs.Prelude.{◌==◌, ◌≡◌, ◌≤◌, List, None, Some, false, length, true, ℕ};
 ghost use Rattle.tso_laws.specs.EndedRuns.{End};
 ghost use Rattle.tso_laws.specs.Outcomes.{IsAllowedByTso, IsAllowedSequentially, IsEnd};
 ghost use Rattle.refutation_laws.specs.Models.{IsAllowedBy, IsExecutionOf, depth_of};
@@ -10,26 +10,34 @@ ghost use Rattle.refutation_laws.specs.declared.model.Model.TheVariants.{Sequent
 ghost use Rattle.relational_model.specs.Candidates.{Candidate, registers_left, words_left};
 ghost use Rattle.possible_reads.specs.Facts.{Fact};
 ghost use Rattle.possible_reads.specs.Laws.{AreMet};
-ghost use Rattle.possible_reads.specs.Possible.{can_be, readings_after, values_written};
+ghost use Rattle.possible_reads.specs.Possible.{can_be, least_read, readings_after, values_written};
 ghost use Rattle.refutation_laws.specs.Agreement.{Stands};
 ghost use Rattle.relational_model.specs.Model.{IsAllowed};
 ghost use Rattle.refutation_laws.specs.declared.model.Relation.{Relation};
-ghost use Rattle.short_refutations.specs.Edges.{Knowledge, is_edge, relates};
-ghost use Rattle.short_refutations.specs.Shown.{first_that_relates};
-ghost use Rattle.short_refutations.specs.Refutations.{Lemma, Node, refutes};
+ghost use Rattle.lemma_refutations.specs.Edges.{Knowledge, is_edge, relates};
+ghost use Rattle.lemma_refutations.specs.Shown.{first_that_relates};
+ghost use Rattle.lemma_refutations.specs.Refutations.{Lemma, Node, refutes};
 ghost use Rattle.tso_terms.specs.Condition.{Claim, NamesExist, truth_of};
 ghost use Rattle.tso_terms.specs.FinalState.{final_registers, final_words};
 ghost use Rattle.tso_terms.specs.FlatMachine.{registers_in};
 ghost use Rattle.tso_terms.specs.Litmus.{IsTest, Litmus};
-ghost use Rattle.tso_terms.specs.ProgramOrder.{is_write};
+ghost use Rattle.tso_terms.specs.ProgramOrder.{is_read, is_write};
 ghost use Rattle.tso_terms.specs.Runs.{CoresExist, run};
 ghost use Rattle.basic_laws.specs.Types.{Choice, Entry, Exists, Forall, NotExists};
 
-use possible_reads::written_values_are_possible;
-use short_refutations::{
-    edges_have_names, no_run_meets_what_is_refuted, refuted_questions_have_answers,
-    short_refutations_are_complete, short_refutations_are_sound,
+use lemma_refutations::{
+    edges_have_names, no_run_meets_what_is_refuted, refutations_by_lemmas_are_complete,
+    refutations_by_lemmas_are_sound, refuted_questions_have_answers,
 };
+use possible_reads::{readings_are_possible, written_values_are_possible};
+
+/// What each read returns is no less than the least that it can return, after any number of rounds.
+pub fn a_read_returns_no_less()
+    ensures { (t : Litmus) (c : Candidate) (facts : List Fact) (rounds : ℕ) (read : Entry) (r : Entry) → IsAllowed t c → AreMet t c facts
+        → Stands t c read r → is_read r ≡ true → least_read (readings_after t facts rounds) read ≤ r.value }
+{
+    readings_are_possible();
+}
 
 /// What each write writes is among what it can write, after any number of rounds.
 pub fn a_write_writes_what_it_can()
@@ -41,7 +49,7 @@ pub fn a_write_writes_what_it_can()
 }
 
 /// What lemmas and a tree refute is false in each final state that TSO allows, or sequential consistency.
-pub fn no_final_state_is_refuted_shortly()
+pub fn no_final_state_is_refuted_by_lemmas()
     ensures tso { (t : Litmus) (claim : Claim) (lemmas : List Lemma) (tree : List Node) (registers : List (List ℕ)) (memory : List ℕ)
         → NamesExist (length t.programs) (length t.words) claim → refutes Tso t claim lemmas tree ≡ true
         → IsAllowedByTso t registers memory → truth_of registers memory claim ≡ false }
@@ -49,11 +57,11 @@ pub fn no_final_state_is_refuted_shortly()
         → NamesExist (length t.programs) (length t.words) claim → refutes Sequential t claim lemmas tree ≡ true
         → IsAllowedSequentially t registers memory → truth_of registers memory claim ≡ false }
 {
-    short_refutations_are_sound();
+    refutations_by_lemmas_are_sound();
 }
 
 /// No run ends in a state that meets what they refute, and no end that a search finds is such a state.
-pub fn no_run_is_refuted_shortly()
+pub fn no_run_is_refuted_by_lemmas()
     ensures tso { (t : Litmus) (claim : Claim) (lemmas : List Lemma) (tree : List Node) (depth : ℕ) (choices : List Choice)
         → IsTest t → NamesExist (length t.programs) (length t.words) claim → refutes Tso t claim lemmas tree ≡ true → End t depth choices
         → truth_of (registers_in (run t depth choices).state) (run t depth choices).state.memory claim ≡ false }
@@ -72,7 +80,7 @@ pub fn no_run_is_refuted_shortly()
 
 /// Where they refute a test's question, no execution makes the claim of `exists` or `~exists` true, each makes that of `forall` true,
 /// and without a condition there is none.
-pub fn a_question_is_refuted_shortly()
+pub fn a_question_is_refuted_by_lemmas()
     ensures exists { (model : Model) (t : Litmus) (claim : Claim) (lemmas : List Lemma) (tree : List Node) (order : List Entry)
         → IsTest t → t.condition ≡ Some (record { quantifier = Exists; claim = claim })
         → refutes model t (asked_claim t.condition) lemmas tree ≡ true
@@ -92,7 +100,7 @@ pub fn a_question_is_refuted_shortly()
 }
 
 /// A claim that no lemmas and tree refute is true of some allowed candidate, of some execution, and at the end of some run.
-pub fn what_is_not_refuted_shortly_is_met()
+pub fn what_is_not_refuted_by_lemmas_is_met()
     ensures candidate { (model : Model) (t : Litmus) (claim : Claim)
         → IsTest t → NamesExist (length t.programs) (length t.words) claim
         → ((lemmas : List Lemma) (tree : List Node) → refutes model t claim lemmas tree ≡ true → ⊥)
@@ -108,7 +116,7 @@ pub fn what_is_not_refuted_shortly_is_met()
         → (choices : List Choice) × CoresExist (length t.programs) choices × End t (depth_of model) choices
         × (truth_of (registers_in (run t (depth_of model) choices).state) (run t (depth_of model) choices).state.memory claim ≡ true) }
 {
-    short_refutations_are_complete();
+    refutations_by_lemmas_are_complete();
 }
 
 /// An edge has a relation of its own, and a relation that is found makes an edge.

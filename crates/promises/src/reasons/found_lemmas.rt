@@ -1,4 +1,4 @@
-//! What a search for a short refutation answers, said again in plain terms.
+//! What a search for a refutation by lemmas answers, said again in plain terms.
 
 ghost use Rattle.std.specs.Prelude.{◌≡◌, ◌<◌, ◌+◌, ◌*◌, ℕ, true, false, Bool, List, [], ◌∷◌, Some, IfOk, length};
 ghost use Rattle.tso_terms.specs.Litmus.{Litmus};
@@ -6,11 +6,11 @@ ghost use Rattle.possible_reads.specs.Facts.{Fact};
 ghost use Rattle.refutation_laws.specs.Known.{events_of};
 ghost use Rattle.refutation_laws.specs.Refutations.{asked_claim};
 ghost use Rattle.refutation_laws.specs.declared.model.Model.{Model};
-ghost use Rattle.short_refutations.specs.Refutations.{Lemma, Node, refutes};
-ghost use Rattle.short_reasons.specs.Reasons.{HasMoreCases, counted_as, given_at_first, still_open_after};
+ghost use Rattle.lemma_refutations.specs.Refutations.{Lemma, Node, refutes};
+ghost use Rattle.found_reasons.specs.Reasons.{HasMoreCases, counted_as, given_at_first, still_open_after};
 
+use found_reasons::{Reason, explain};
 use refutation_laws::Model;
-use short_reasons::{Reason, explain};
 use std::alloc::Global;
 use tso_terms::{NoMemory, Test};
 

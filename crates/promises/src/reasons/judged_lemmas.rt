@@ -3,7 +3,7 @@
 ghost use Rattle.std.specs.Prelude.{◌≡◌, IfOk, map};
 ghost use Rattle.refutation_laws.specs.Refutations.{asked_claim};
 ghost use Rattle.refutation_checker.specs.Trees.{lemma_of, node_of};
-ghost use Rattle.short_refutations.specs.Refutations as spec;
+ghost use Rattle.lemma_refutations.specs.Refutations as spec;
 
 use refutation_checker::{Lemma, Node, refutes};
 use refutation_laws::Model;

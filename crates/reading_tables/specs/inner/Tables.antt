@@ -6,6 +6,7 @@ use Rattle.tso_terms.specs.Litmus.{Litmus}
 use Rattle.basic_laws.specs.Types.{Entry}
 use Rattle.refutation_laws.specs.Known.{events_of}
 use Rattle.reading_tables.specs.inner.Told.{held_of, all_made, written_of, known_of, AreExpressions}
+use Rattle.reading_tables.specs.inner.Bounds.{AreBounds, each_least}
 use Rattle.reading_tables.specs.declared.expressions.Written.{Written}
 use Rattle.reading_tables.specs.declared.tables.Problem.{Problem}
 use Rattle.reading_tables.specs.declared.tables.Reading.{Reading}
@@ -18,9 +19,10 @@ pub record IsProblem (t : Litmus) (p : Problem) : Type 0 where
   pub test : p.test.now ≡ t
   pub events : p.events.items ≡ events_of t
   pub expressions : AreExpressions t p.expressions
+  pub bounds : AreBounds t p.expressions.written.items p.bounds.items
 
 abbrev pub reading_of : Reading → spec.Reading
-reading_of x = record { read = x.read; sources = x.sources.items; values = known_of x.values }
+reading_of x = record { read = x.read; sources = x.sources.items; values = known_of x.values; least = x.least }
 
 abbrev pub readings_of : List Reading → List spec.Reading
 readings_of xs = map reading_of xs
@@ -38,12 +40,14 @@ AreValues table made written values =
 pub record AreTableValues (p : Problem) (x : Table) : Type 0 where
   pub made : AreMadeValues (readings_of x.readings.items) (all_made p.expressions.makings.items) x.made.items
   pub written : AreValues (readings_of x.readings.items) (all_made p.expressions.makings.items) p.expressions.written.items x.values.items
+  pub least : x.least.items ≡ each_least p.test.now (readings_of x.readings.items) p.expressions.written.items
 
 pub record IsTold (told : Told) : Type 0 where
   pub events : told.events.now ≡ events_of told.test.now
   pub written : map (written_of (all_made told.makings.now)) told.written.now ≡ expressions.written told.test.now
   pub made : AreMadeValues (readings_of told.readings.now) (all_made told.makings.now) told.made.now
   pub values : AreValues (readings_of told.readings.now) (all_made told.makings.now) told.written.now told.values.now
+  pub least : told.least.now ≡ each_least told.test.now (readings_of told.readings.now) told.written.now
 
 abbrev pub sources_or : List (Option Entry) → Option (Bor Reading) → List (Option Entry)
 sources_or others None = others
@@ -52,3 +56,7 @@ sources_or others (Some x) = x.now.sources.items
 abbrev pub values_or_any : Option (Bor Reading) → spec.Values
 values_or_any None = None
 values_or_any (Some x) = known_of x.now.values
+
+abbrev pub least_or_none : Option (Bor Reading) → ℕ
+least_or_none None = 0
+least_or_none (Some x) = x.now.least

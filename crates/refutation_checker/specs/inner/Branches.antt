@@ -4,7 +4,7 @@ use Rattle.reading_tables.specs.Told.{facts_of}
 use Rattle.reading_tables.specs.inner.Tables.{IsProblem, IsTold, readings_of}
 use Rattle.reading_tables.specs.declared.tables.Told.{Told}
 use Rattle.reading_tables.specs.declared.tables.Problem.{Problem}
-use Rattle.short_refutations.specs.Edges.{Knowledge}
+use Rattle.lemma_refutations.specs.Edges.{Knowledge}
 
 abbrev pub knowledge_of : Told → Knowledge
 knowledge_of told = record { facts = facts_of told.facts.now; readings = readings_of told.readings.now }

@@ -5,7 +5,7 @@ use Rattle.tso_terms.specs.Litmus.{Litmus}
 use Rattle.tso_terms.specs.ProgramOrder.{same_kind, writes_to}
 use Rattle.basic_laws.specs.Types.{Entry, LR, LW}
 use Rattle.possible_reads.specs.Possible.{same_source, sources_read}
-use Rattle.short_refutations.specs.Edges.{Knowledge}
+use Rattle.lemma_refutations.specs.Edges.{Knowledge}
 
 abbrev pub reads_word : Litmus → Knowledge → ℕ → Option Entry → Entry → Bool
 reads_word t k loc word r = same_kind r.kind LR && (r.loc.0 == loc) && list_any (same_source word) (sources_read t k.readings r)

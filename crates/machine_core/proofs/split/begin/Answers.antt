@@ -1,6 +1,7 @@
 use Rattle.machine_core.proofs.Vocabulary.{◌≡◌, ◌∙◌, refl, None, Some, Unused, Used, caches_of, not_through, ask_by, hits_by, sym, ap}
 use Rattle.machine_core.proofs.Vocabulary.{subst, IfOk, false, true, chosen, core_of, stalled, words_of, state_of_cores, Complete, state_in}
 use Rattle.machine_core.proofs.Vocabulary.{held_as, holder_by, memory_access_in, SucceedsUnlessCommitting, HasMade}
+use Rattle.multiprocessor.specs.declared.accesses.CacheUse.TheVariants as cache_use
 use Rattle.tso_terms.specs.declared.choice.Stall.TheVariants as stall
 use Rattle.machine_core.proofs.Splitting.{needs-none, needs-some, needed-at, needed-among, needed-misses, asked-caches, asked-how, needs-is}
 use Rattle.machine_core.proofs.Splitting.{may-act, begins-acts, begins-asks, asks-taken, asks-hold, held-with, held-next, held-ask}
@@ -72,7 +73,8 @@ returns-in-None-next_of g c =
     ∙ ap (λ (u : Used). u.caches)
     (sym (needed-at loc write (not_through Unused (caches_of m.bus))
     (λ l w. ask_by (caches_of m.bus) c.core_of-core.result.0 l.0 w) access _ asked)) in
-    let how = c.asking.ensures ∙ asked-how m.bus c.ask-request.new.self c.core_of-core.result loc write c.ask-request.result c.ask-request.ensures.done
+    let how =
+    asked-how m.bus c.ask-request.new.self c.core_of-core.result loc write c.ask-request.result c.ask-request.ensures.done
     ∙ ap (λ (u : Used). u.how)
     (sym (needed-at loc write (not_through Unused (caches_of m.bus))
     (λ l w. ask_by (caches_of m.bus) c.core_of-core.result.0 l.0 w) access _ asked)) in
@@ -81,7 +83,7 @@ returns-in-None-next_of g c =
       makes = record {
         ok = performs-ask t m _ c.args.choice needs (ap holder_by (sym c.in-None-next_of.ensures)) refl c.ask-request.ensures.done.words holds refl;
         caches =
-            use-ask t m c.ask-request.new.self c.args.choice c.core_of-core.result.0 access c.asking.result needs
+            use-ask t m c.ask-request.new.self c.args.choice c.core_of-core.result.0 access (cache_use.Asked c.ask-request.result) needs
             (ap holder_by (sym c.in-None-next_of.ensures)) c.core_of-core.ensures.chosen
             c.access_of-access.ensures.value how caches;
       };

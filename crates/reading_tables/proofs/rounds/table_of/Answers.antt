@@ -1,10 +1,11 @@
-use Rattle.reading_tables.proofs.Vocabulary.{List, Option, sym, subst}
+use Rattle.reading_tables.proofs.Vocabulary.{List, Option, map, ap, ◌∙◌, sym, subst}
 use Rattle.std.specs.Prelude.{ℕ, Vec}
 use Rattle.std.specs.Global.{Global}
 use Rattle.reading_tables.specs.declared.expressions.Making.{Making}
 use Rattle.reading_tables.specs.declared.expressions.Written.{Written}
 use Rattle.reading_tables.specs.declared.tables.Reading.{Reading}
 use Rattle.reading_tables.specs.inner.Told.{all_made}
+use Rattle.reading_tables.specs.inner.Bounds.{bounded_by}
 use Rattle.reading_tables.specs.inner.Tables.{readings_of, AreMadeValues, AreValues}
 use Rattle.reading_tables.proofs.rounds.table_of.Goals as goal
 
@@ -25,4 +26,7 @@ returns-clause-values c =
       written = subst (λ (ws : List Written). AreValues (readings_of readings) (all_made makings) ws values) c.deref-5.ensures.value
           (subst (λ (rs : List Reading). AreValues (readings_of rs) (all_made makings) c.deref-5.result.now values) c.deref-3.ensures.value
           (c.in_ok-values.ensures (all_made makings) given));
+      least = c.in_ok-least.ensures
+          ∙ (ap (λ (rs : List Reading). map (bounded_by (readings_of rs)) c.deref-7.result.now) c.deref-6.ensures.value
+          ∙ (ap (map (bounded_by (readings_of readings))) c.deref-7.ensures.value ∙ c.requires.bounds (readings_of readings)));
     }

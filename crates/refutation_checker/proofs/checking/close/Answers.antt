@@ -1,5 +1,5 @@
 use Rattle.refutation_checker.proofs.Vocabulary.{ap, ◌∙◌, ◌++◌, map, lemma_of, node_of, facts_of, branches_of}
-use Rattle.short_refutations.specs.Refutations.{is_node, known_from}
+use Rattle.lemma_refutations.specs.Refutations.{is_node, known_from}
 use Rattle.refutation_checker.proofs.Stack.{wrong-node, right-node, ended, below}
 use Rattle.refutation_checker.proofs.checking.close.Goals as goal
 

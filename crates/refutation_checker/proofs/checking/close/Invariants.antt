@@ -1,5 +1,5 @@
 use Rattle.refutation_checker.proofs.Vocabulary.{◌≡◌, [], ◌∷◌, map, drop, node_of, lemma_of, facts_of, branches_of}
-use Rattle.short_refutations.specs.Refutations.{close}
+use Rattle.lemma_refutations.specs.Refutations.{close}
 use Rattle.refutation_checker.proofs.checking.close.Given as goal
 
 -- what is left of the nodes is a tree for each open branch just where all are one for the first

@@ -1,5 +1,5 @@
 use Rattle.refutation_checker.proofs.Vocabulary.{◌≡◌, [], map, take, drop, lemma_of, facts_of}
-use Rattle.short_refutations.specs.Refutations.{hold}
+use Rattle.lemma_refutations.specs.Refutations.{hold}
 use Rattle.refutation_checker.proofs.checking.hold.Given as goal
 
 -- the lemmas that were gone over are shown

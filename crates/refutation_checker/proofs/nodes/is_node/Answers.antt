@@ -1,5 +1,5 @@
 use Rattle.refutation_checker.proofs.Vocabulary.{ap, sym, ◌∙◌, map, lemma_of, node_of, knowledge_of}
-use Rattle.short_refutations.specs.Refutations as spec
+use Rattle.lemma_refutations.specs.Refutations as spec
 use Rattle.refutation_checker.proofs.nodes.is_node.Goals as goal
 
 pub returns-in-Between : goal.returns-in-Between

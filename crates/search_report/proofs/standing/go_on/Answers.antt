@@ -2,7 +2,7 @@ use Rattle.search_report.proofs.Vocabulary.{◌≡◌, ◌∙◌, ◌∷◌, ◌
 use Rattle.reading_tables.specs.Told.{fact_of, facts_of}
 use Rattle.refutation_checker.specs.Trees.{node_of}
 use Rattle.refutation_checker.specs.inner.Stack.{branches_of}
-use Rattle.short_refutations.specs.Refutations.{answers, known_from}
+use Rattle.lemma_refutations.specs.Refutations.{answers, known_from}
 use Rattle.search_report.specs.Lines as spec
 use Rattle.search_report.specs.inner.Standing.{branch_in, standing_of}
 use Rattle.search_report.proofs.Branching.{as-many, below-added}

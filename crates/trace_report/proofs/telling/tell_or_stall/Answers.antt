@@ -105,7 +105,7 @@ returns-clause-supplied g c =
     ∙ (place-of m c.core_of-core.result.0 ∙ ap (λ i. (core_of m.state.flat i).place) core)) in
     let test : c.args.test.now ≡ m.test = sym c.requires.told.machine.test in
     let how = c.in_ok-outcome.ensures.how in
-    c.found_by.ensures ∙ (λ i. found_by (test i) (place i) c.args.choice (c.in_ok-outcome.ensures.outcome i) (how i))
+    c.found_by.ensures ∙ (λ i. found_by (test i) (place i) c.args.choice (how i))
 
 pub returns-clause-known : goal.returns-clause-known
 returns-clause-known g c =

@@ -28,7 +28,7 @@ returns c =
     } in
     let refuting : Refuting = record {
       names = c.refuted_questions_are_answered.ensures.names;
-      executions = c.short_refutations_are_sound.ensures.executions;
+      executions = c.refutations_by_lemmas_are_sound.ensures.executions;
       tso = c.no_run_meets_what_is_refuted.ensures.tso;
       sequential = c.no_run_meets_what_is_refuted.ensures.sequential;
     } in

@@ -11,4 +11,4 @@ returns-clause-object c = λ model t lemmas tree refuted.
 pub returns-clause-executions : goal.returns-clause-executions
 returns-clause-executions c = λ model t claim lines order names read execution.
     let is = c.printed_lines_refute.ensures.read model t claim lines read in
-    c.short_refutations_are_sound.ensures.executions model t claim is.lemmas is.tree order names is.refuted execution
+    c.refutations_by_lemmas_are_sound.ensures.executions model t claim is.lemmas is.tree order names is.refuted execution

@@ -3,6 +3,7 @@ use Rattle.snoop_bus.proofs.Vocabulary.{snoop_column, after_request, SeenBelow, 
 use Rattle.snoop_bus.proofs.CacheTags.{tags-requested}
 use Rattle.snoop_bus.proofs.NewLemmas.{same_cores}
 use Rattle.snoop_bus.proofs.SnoopLemmas.{seen-none, seen-yet, seen-more, seen-here, seen-own, own-unseen, left-none, left-more, left-here, left-own, left-all}
+use Rattle.snoop_bus.proofs.SnoopLemmas.{none-held, unseen, unleft}
 use Rattle.snoop_bus.proofs.UseLemmas.{ways-set_cache}
 use Rattle.snoop_bus.proofs.hierarchy.Hierarchy.snoop_others.Goals.{then-other-core, else-other-core}
 use Rattle.snoop_bus.proofs.hierarchy.Hierarchy.snoop_others.Goals as goal
@@ -93,3 +94,18 @@ returns-clause-ways g c = c.loop-other.invariant.ways
 
 pub returns-clause-memory : goal.returns-clause-memory
 returns-clause-memory g c = c.loop-other.invariant.memory
+
+-- ---- where no cache has the line
+
+pub returns-then-not-found-clause-tags : goal.returns-then-not-found-clause-tags
+returns-then-not-found-clause-tags g c =
+    let old = c.args.self.now.caches.items in
+    let on = snoop_column (g.P.Protocol.table c.args.protocol.now) c.args.request in
+    let none = none-held c.args.line old (sym c.requires.shared ∙ c.if-not-found.true) in
+    tags-requested on c.args.core c.args.line old old refl (unseen on c.args.core c.args.line old none (length old))
+
+pub returns-then-not-found-clause-copies : goal.returns-then-not-found-clause-copies
+returns-then-not-found-clause-copies g c =
+    let old = c.args.self.now.caches.items in
+    let none = none-held c.args.line old (sym c.requires.shared ∙ c.if-not-found.true) in
+    unleft (snoop_column (g.P.Protocol.table c.args.protocol.now) c.args.request) c.args.core c.args.line old none

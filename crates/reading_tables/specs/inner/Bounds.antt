@@ -1,0 +1,22 @@
+-- The least that writes can write, as the code holds it.
+use Rattle.std.specs.Prelude.{ℕ, ◌≡◌, List, map, Option, Some, None}
+use Rattle.tso_terms.specs.Litmus.{Litmus}
+use Rattle.basic_laws.specs.Types.{Entry}
+use Rattle.possible_reads.specs.Possible.{Reading, least_read, least_sum, least_written}
+use Rattle.reading_tables.specs.declared.expressions.Written.{Written}
+use Rattle.reading_tables.specs.declared.amounts.Bound.{Bound}
+
+-- a number, on top of the least that a read returns, where there is one
+abbrev pub least_upon : List Reading → Option Entry → ℕ → ℕ
+least_upon table None number = number
+least_upon table (Some read) number = least_sum (least_read table read) number
+
+abbrev pub bounded_by : List Reading → Bound → ℕ
+bounded_by table bound = least_upon table bound.read bound.number
+
+-- the least that each of these writes can write
+abbrev pub each_least : Litmus → List Reading → List Written → List ℕ
+each_least t table written = map (λ x. least_written t table x.write) written
+
+abbrev pub AreBounds : Litmus → List Written → List Bound → Type 0
+AreBounds t written bounds = (table : List Reading) → map (bounded_by table) bounds ≡ each_least t table written

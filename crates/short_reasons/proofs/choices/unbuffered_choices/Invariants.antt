@@ -1,6 +1,0 @@
-use Rattle.short_reasons.proofs.Vocabulary.{◌≡◌, ◌++◌, drop, filter}
-use Rattle.short_reasons.specs.inner.Steps as spec
-use Rattle.short_reasons.proofs.choices.unbuffered_choices.Given as goal
-
-abbrev pub invariant-loop-choice : goal.invariant-loop-choice
-invariant-loop-choice l = filter spec.is_step l.choice-items ≡ l.steps.items ++ filter spec.is_step (drop l.choice-index l.choice-items)

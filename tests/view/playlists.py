@@ -1,0 +1,186 @@
+"""Rows for lists of tests: they are made, kept and saved, and a clicker goes through them both ways."""
+import json
+import os
+
+from bench import READY, differs, safety
+from driver import Driver
+from kept import faults_of_form, saved_page
+from teaching import is_in_sight, press, test_of
+
+CLICKED = "document.body.dispatchEvent(new KeyboardEvent('keydown', { key: '%s', bubbles: true, cancelable: true }))"
+
+
+KINDS = ["SB: run, 6 choices", "MP: run, 19 choices", "IRIW: run, 28 choices"]
+
+
+def at_its_end(bench):
+    """A clicker that goes on opens a run before its first choice, and one that goes back at its end."""
+    bench.value("putLecture(true); openListed(1)")
+    found = [bench.value("[playlist.at, drive.count]")]
+    for key in ("PageUp", "PageDown"):
+        bench.value(CLICKED % key)
+        found.append(bench.value("[playlist.at, drive.count === drive.words.length, drive.count]"))
+    last = bench.value("taught.list[0] && drive.words.length")
+    bench.value("putLecture(false)")
+    return differs("by a clicker", [found[0], found[1][:2], found[2]], [[1, 0], [0, True], [1, False, 0]]) + ([] if last else ["no choices are known"])
+
+
+def list_row(bench, folder):
+    """Tests of a list open one after the other, at their places; the list goes along in a saved page, and comes by a file."""
+    bench.open_fresh()
+    for name in ("SB", "MP", "IRIW"):
+        bench.value("loadText('%s.litmus'); goTo(1); addToList()" % name)
+    faults = []
+    faults += differs("the list", bench.value("[...document.querySelectorAll('#list li')].map(each => each.firstElementChild.textContent)"), KINDS)
+    bench.value("document.querySelector('[data-raised=\"2\"]').click()")
+    moved = bench.value("[taught.list.map(({ name }) => name), taught.list[playlist.at].name]")
+    faults += differs("moved up", moved, [[KINDS[0], KINDS[2], KINDS[1]], KINDS[2]])
+    bench.value("document.querySelector('[data-raised=\"2\"]').click()")
+    name, text = saved_page(bench, "SAVES.page()")
+    faults += faults_of_form(text)
+    path = os.path.join(folder, "saved-list.html")
+    with open(path, "w") as file:
+        file.write(text)
+    bench.window.open("file://" + path)
+    bench.value(READY)
+    bench.wait("drive.isOn")
+    faults += differs("the name of the file", name, "lecture-of-3-tests.html")
+    faults += differs("opened first, at its start, for a lecture", bench.value("[playlist.at, drive.count, isLecture()]"), [0, 0, True])
+    opened = [bench.value("testName()")]
+    for _ in range(2):
+        press(bench, "#list-bar [data-listed]:last-child")
+        opened.append(bench.value("testName()"))
+    press(bench, "#list-bar [data-listed]:first-child")
+    opened.append(bench.value("testName()"))
+    faults += differs("opened", opened, ["SB", "MP", "IRIW", "MP"]) + differs("its place", bench.value("[drive.count, drive.words.length > 1]"), [0, True])
+    faults += at_its_end(bench)
+    bench.window.requests.clear()
+    bench.open_fresh()
+    for list_of, said in (([{"name": "a", "address": "test=X86"}], ""), ([{"name": "a", "address": "javascript:alert(1)"}], "address"),
+                          ([{"name": 7, "address": "test="}], "name")):
+        bench.value("takeText(%s)" % json.dumps(json.dumps({"list": list_of})))
+        is_so = said in bench.text("#message") if said else bench.value("taught.list.length") == 1
+        faults += [] if is_so else ["of %s it says %r" % (list_of, bench.text("#message"))]
+    return faults + safety(bench)
+
+
+def clicker_row(bench):
+    """A clicker's key says what to do where no choice is known, and again leads on; it names the next test at a run's end, and leads there from
+    a cycle's end and a sheet's too."""
+    bench.open_fresh()
+    bench.value("addToList(); loadText('MP.litmus'); addToList(); askWhy()")
+    bench.wait("!bench.task && document.querySelector('.cycle')")
+    press(bench, "#way-back [data-add-to-list]")
+    faults = differs("a sheet of the list", bench.text("#way-back .listed"), "Added as 3 of 3. See the list ↑")
+    bench.value("openListed(0); addToList(); findOutcomes()")
+    bench.wait("!bench.task && document.querySelector('.states-sheet')")
+    bench.value("openListed(2); putLecture(true)")
+    bench.wait("!bench.task && document.querySelector('.cycle')")
+    bench.value("taught.list.push({ ...taught.list[0] }); drawList(); sheet.cycle.move('all')")
+    bench.value(CLICKED % "PageDown")
+    faults += differs("after a cycle", bench.value("[playlist.at, drive.isOn, testName()]"), [3, True, "SB"])
+    bench.value("taught.list.pop(); openListed(0)")
+    bench.value(CLICKED % "PageDown")
+    said = ("No choices yet, so PageDown has nothing to step: press a step or a drain of a core, or begin a lesson. "
+            "Once more for the next test: MP: run, 19 choices.")
+    faults += differs("said", bench.text("#sentence"), said)
+    bench.value(CLICKED % "PageDown")
+    faults += differs("by the second press", bench.value("testName()"), "MP")
+    bench.value("openListed(0)")
+    for choice in "0s 1s 0s 1s 0d 1d".split():
+        press(bench, "[data-choice='%s']" % choice)
+    faults += [] if " Next: MP: " in bench.text("#sentence") else ["at the end it says " + bench.text("#sentence")]
+    bench.value(CLICKED % "PageDown")
+    faults += differs("the next", bench.value("testName()"), "MP")
+    bench.value("putLecture(false)")
+    return faults + safety(bench)
+
+
+def updated(bench):
+    """What is shown takes the place of its entry, and a note goes with what it is of."""
+    press(bench, "[data-choice='0s']")
+    bench.wait("!document.querySelector('#saves [data-update-list]').hidden")
+    faults = differs("the note of what was added", bench.text("#listed"), "") + differs("offered", bench.text("#saves [data-update-list]"), "Update 1 of 1")
+    press(bench, "#saves [data-update-list]")
+    faults += differs("the entry", bench.value("[taught.list.length, taught.list[0].name]"), [1, "SB: run, 1 choice"])
+    bench.value("takeFromLibrary('MP.litmus')")
+    bench.wait("document.querySelector('#list-bar span').textContent === 'Not in the list of 1 test'")
+    return faults + differs("over another test", [bench.text("#listed"), bench.value("document.querySelector('#saves [data-update-list]').hidden")], ["", True])
+
+
+def kept_list_row(bench):
+    """A list says what was added, takes no test twice, and outlives a reload; what stands beside the machine belongs to its test; and a saved page is named."""
+    bench.open_fresh()
+    press(bench, "#add-to-list")
+    faults = differs("added", bench.text("#listed"), "Added as 1 of 1. See the list ↑")
+    press(bench, "#add-to-list")
+    faults += differs("twice", [bench.text("#listed"), bench.value("taught.list.length")], ["It is there already, as 1 of 1. See the list ↑", 1])
+    press(bench, "#listed [data-to-list]")
+    faults += differs("the list in sight", is_in_sight(bench, "#list"), True)
+    faults += updated(bench)
+    bench.value("putBeside(JSON.stringify(ABREAST)); takeFromLibrary('MP.litmus')")
+    faults += differs("beside the next test", bench.value("[drive.beside, drive.histories.length]"), [None, 1])
+    press(bench, "#add-to-list")
+    faults += differs("added", bench.text("#listed"), "Added as 2 of 2. See the list ↑")
+    bench.value("new Promise(done => setTimeout(done, 300))")
+    bench.window.reload()
+    bench.value(READY)
+    bench.wait("drive.isOn")
+    faults += differs("after a reload", bench.value("taught.list.map(({ name }) => name)"), ["SB: run, 1 choice", "MP: run, 6 choices"])
+    bench.value("document.querySelectorAll('[data-unlisted]')[1].click()")
+    bench.window.reload()
+    bench.value(READY)
+    bench.wait("drive.isOn")
+    faults += differs("after one was taken off", bench.value("taught.list.map(({ name }) => name)"), ["SB: run, 1 choice"])
+    bench.value("saveFile = () => {}; savePage()")
+    bench.wait("document.querySelector('.page-saved').textContent !== ''")
+    faults += [] if "Saved as MP.html" in bench.value("document.querySelector('.page-saved').textContent") else ["it doesn't say what was saved"]
+    return faults + safety(bench)
+
+
+WHERE = "[playlist.at, sheet.cycle?.element.isConnected ? sheet.cycle.shown : null, drive.isOn ? drive.count : null]"
+
+
+def both_ways_row(bench):
+    """A clicker goes back through answers as it went on: to the one before from the start of each, and there to its end."""
+    bench.open_fresh()
+    bench.value("addToList(); loadText('store-buffering-fenced.litmus'); findOutcomes()")
+    bench.wait("!bench.task && document.querySelector('.states-sheet')")
+    bench.value("addToList(); askWhy()")
+    bench.wait("!bench.task && document.querySelector('.cycle')")
+    bench.value("addToList(); openListed(0); makeChoice('0s'); addToList(); putLecture(true); openListed(3)")
+    faults = []
+    for where, ready in (([2, 4, None], "document.querySelector('.cycle')"), ([2, 3, None], "true"), ([2, 2, None], "true"), ([2, 1, None], "true"),
+                         ([1, None, None], "document.querySelector('.states-sheet')"), ([0, None, 0], "drive.isOn"), ([0, None, 0], "true")):
+        bench.value(CLICKED % "PageUp")
+        bench.wait("!bench.task && " + ready)
+        faults += differs("after PageUp", bench.value(WHERE), where)
+    bench.value("putLecture(false)")
+    return faults + safety(bench)
+
+
+def renamed_row(bench):
+    """An entry of a list gets a name of one's own, which stays; what isn't in the list is said to be none of it."""
+    bench.open_fresh()
+    bench.value("addToList(); byId('list-part').open = true")
+    press(bench, "#list [data-renamed]")
+    bench.value("(field => { field.value = ' Dekker '; field.dispatchEvent(new Event('change')); })(document.querySelector('[data-name-of]'))")
+    named = bench.value("[taught.list[0].name, byId('list').textContent.includes('Dekker'), document.activeElement.textContent]")
+    faults = differs("its name", named, ["Dekker", True, "Dekker"])
+    press(bench, "#list [data-renamed]")
+    bench.value("(field => { field.value = ' '; field.dispatchEvent(new Event('change')); })(document.querySelector('[data-name-of]'))")
+    faults += differs("with no name", bench.value("taught.list[0].name"), "Dekker")
+    bench.value("loadText('MP.litmus')")
+    bench.wait("document.querySelector('#list-bar span').textContent === 'Not in the list of 1 test'")
+    return faults + safety(bench)
+
+
+def rows(page, folder):
+    bench = Driver(page)
+    return [
+        ("a list of tests", lambda: list_row(bench, folder)),
+        ("a clicker with nothing known", lambda: clicker_row(bench)),
+        ("a list that is kept", lambda: kept_list_row(bench)),
+        ("a clicker that goes back through a list", lambda: both_ways_row(bench)),
+        ("a name in a list", lambda: renamed_row(bench)),
+    ]

@@ -1,0 +1,106 @@
+'use strict';
+
+// Long commands: they are answered in a worker, and what is shown stays in sight until there is an answer.
+
+const QUICK = 1500; // milliseconds: an answer to `why` that took no longer comes again by itself after an edit
+const TYPING = 300; // milliseconds without an edit
+
+/** Of a long command that isn't begun: what is wrong with its test, or nothing. Where the last answer to `why` was quick, the next one comes
+ * by itself; until then the last one stays. */
+function showRefusalAlone(command) {
+  const answer = asked({ command: 'run' }, inputOf(command)), isRefused = answer.status === Tso.STATUS.refused;
+  const isLive = command === 'why' && !isRefused && bench.took < QUICK;
+  const isAnswered = byId('states').childElementCount > 0 && bench.answer?.status === Tso.STATUS.good;
+  clearTimeout(bench.again);
+  if (isLive && isAnswered) bench.again = setTimeout(() => currentCommand() === 'why' && begin({ isAgain: true }), TYPING);
+  else showAnswer(isRefused ? answer : { status: 0, text: '', hint: '' });
+}
+
+function stopTask() {
+  bench.task?.stop();
+  bench.task = null;
+  endWorking();
+}
+
+/** Begins a long command in a worker. What is shown stays in sight until there is an answer. One that comes again by itself (`isAgain`) is told
+ * beside the test, where one writes. */
+async function begin({ isAgain } = {}) {
+  const command = currentCommand(), { options } = showAsked(command);
+  stopTask();
+  clearTimeout(bench.again);
+  byId('about').open = false;
+  const began = Date.now(), input = inputOf(command), task = bench.task = beginTask(bench.bytes, questionsOf(command, options), input, tellProgress);
+  if (command === 'run') showAnswer({ status: 0, text: '', hint: '' });
+  beginWorking();
+  if (isAgain === true) working.asker = byId('test');
+  try {
+    const answers = await task.answers;
+    if (bench.task !== task) return;
+    stopTask();
+    bench.took = Date.now() - began;
+    showLong(command, answers, options, input);
+    if (command !== 'run' && !saidInBrief()) focusAnswer();
+  } catch (fault) {
+    if (bench.task !== task) return;
+    stopTask();
+    showAnswer({ status: null, text: '', hint: trapSentence(fault) });
+  }
+}
+
+/** Shows the answer to a long command. */
+function showLong(command, [answer, beside], options, input) {
+  const isGood = answer.status === Tso.STATUS.good, isUnended = answer.status === Tso.STATUS.unended;
+  if (command === 'run') showLongRun(answer, beside, options, input);
+  else if (command === 'outcomes' && isGood) showOutcomes(answer, beside, input);
+  else if (command === 'outcomes' && isUnended) showMet(answer, options.depth);
+  else if (command === 'counts' && (isGood || isUnended)) showCounts(answer);
+  else if (command === 'why' && isGood) showReason(answer, input);
+  else if (command === 'why' && isUnended) showUnfinished(command, answer);
+  else showOpenAnswer(answer);
+}
+
+/** Says of an answer that met its limit what it doesn't know, and what one can do. */
+function showUnfinished(command, answer) {
+  showAnswer(answer);
+  foldReport(answer);
+  byId('states').replaceChildren(...unfinishedParts(command));
+}
+
+/** What a task is asked: of a run its report and its line, of outcomes those of sequential consistency too. */
+function questionsOf(command, options) {
+  if (command === 'run') return [options, { ...options, json: true }];
+  if (command === 'outcomes') return [{ ...options, json: true }, ...(options.depth > 0 ? [{ ...options, depth: 0, json: true }] : [])];
+  return [['counts', 'why'].includes(command) ? { ...options, json: true } : options];
+}
+
+function showLongRun(answer, line, options, input) {
+  if (answer.status === Tso.STATUS.good && line !== undefined) {
+    showAnswer(answer);
+    if (showDriven(options, input, false)) return;
+  }
+  const isDrawn = answer.status === Tso.STATUS.good;
+  showAnswer(answer);
+  byId('report-part').open = !isDrawn;
+  byId('no-steps').hidden = !(bench.tracing && (isDrawn || answer.status === Tso.STATUS.unended));
+  if (isDrawn) showRun(readLine(line.text.trim()), line.text.trim());
+}
+
+function showOutcomes(answer, beside, test) {
+  const outcomes = readOutcomes(answer.text), sequential = beside?.status === Tso.STATUS.good ? readOutcomes(beside.text) : null;
+  showAnswer(answer);
+  foldReport(answer);
+  const said = [observationSentence(outcomes, test), sequential ? besideSentence(outcomes, sequential) : ''].join(' ').trim();
+  const sheetOfAll = statesSheet(outcomes, sequential, truthsOf(outcomes, test));
+  byId('states').replaceChildren(answerTitle('All final states'), html('p', { role: 'status' }, ...firstStrong(said)), ...sheetOfAll);
+}
+
+/** Shows what a search had met when it came to its limit or was stopped: some of the final states, or none. */
+function showMet(answer, depth, isStopped = false) {
+  const met = readMet(answer.text);
+  if (met.states.length === 0) return showUnfinished('outcomes', answer);
+  showAnswer(answer);
+  foldReport(answer);
+  const truths = met.states.every(({ holds }) => typeof holds === 'boolean') ? met.states.map(({ holds }) => holds) : null;
+  const said = html('p', { role: 'status' }, metSentence(met, isStopped));
+  byId('states').replaceChildren(answerTitle('Some final states'), said, waysOn('outcomes', { isStopped }), ...statesSheet({ ...met, depth }, null, truths));
+}
