@@ -74,7 +74,8 @@ pub fn is_in_order(test: &Test, events: &[Entry], read: &Entry, source: &Option<
 {
     match source {
         None => !is_hidden(events, read),
-        Some(w) => !is_before(read, w) && !is_overwritten(events, read, w),
+        // The program of another core orders neither before the other.
+        Some(w) => w.core != read.core || (!is_before(read, w) && !is_overwritten(events, read, w)),
     }
 }
 
