@@ -1,12 +1,9 @@
 -- The least that a write can write: it goes by its core, place, kind and location alone.
-use Rattle.reading_tables.proofs.Vocabulary.{◌≡◌, ◌<◌, ℕ, zero, suc, true, if◌then◌else◌, List, [], ◌∷◌, length, slice_index, get_or}
-use Rattle.reading_tables.proofs.Vocabulary.{arith, refl, sym, ap, ◌∙◌, Entry, Litmus}
+use Rattle.reading_tables.proofs.Vocabulary.{◌≡◌, true, if◌then◌else◌, List, [], ◌∷◌, refl, sym, ap, ◌∙◌, Entry, Litmus}
 use Rattle.refutation_laws.specs.Known.{bare, same_event}
 use Rattle.refutation_laws.proofs.Standing.{same-bare}
 use Rattle.possible_reads.specs.Expressions.{Expression, Constant, Returned, Combined, Negated, Exchanged, Written, written, expression_among}
 use Rattle.possible_reads.specs.Possible.{Reading, never_wraps, least_by, least_written}
-use Rattle.reading_tables.specs.declared.expressions.Written.{Written as Made}
-use Rattle.reading_tables.specs.inner.Bounds.{each_least}
 
 among-bare : (ws : List Written) (w : Entry) → expression_among ws (bare w) ≡ expression_among ws w
 among-bare [] w = refl
@@ -24,17 +21,6 @@ least-bare t table w =
     ap (λ e. if never_wraps t w.loc.0 then least_by table (bare w) e else 0) (among-bare (written t) w)
     ∙ ap (λ n. if never_wraps t w.loc.0 then n else 0) (by-bare table w (expression_among (written t) w))
 
-same-least : (t : Litmus) (table : List Reading) (w v : Entry) → same_event w v ≡ true → least_written t table w ≡ least_written t table v
+pub same-least : (t : Litmus) (table : List Reading) (w v : Entry) → same_event w v ≡ true → least_written t table w ≡ least_written t table v
 same-least t table w v h =
     sym (least-bare t table w) ∙ (ap (least_written t table) (same-bare w v h) ∙ least-bare t table v)
-
-least-at : (t : Litmus) (table : List Reading) (ws : List Made) (i : ℕ) (x : Made) → i < length ws
-    → slice_index (each_least t table ws) i ≡ least_written t table (get_or ws i x).write
-least-at t table [] i x l = absurd (omega arith)
-least-at t table (w ∷ ws) zero x l = refl
-least-at t table (w ∷ ws) (suc i) x l = least-at t table ws i x (omega (arith, l))
-
-pub found-least : (t : Litmus) (table : List Reading) (ws : List Made) (ns : List ℕ) (i : ℕ) (x : Made) (w : Entry) → ns ≡ each_least t table ws
-    → i < length ws → same_event (get_or ws i x).write w ≡ true → slice_index ns i ≡ least_written t table w
-found-least t table ws ns i x w are l h =
-    ap (λ ys. slice_index ys i) are ∙ (least-at t table ws i x l ∙ same-least t table (get_or ws i x).write w h)

@@ -2,8 +2,10 @@ pub mod Vocabulary
 pub mod Makings
 pub mod Addends
 pub mod LeastWritten
+pub mod WriteNumbers
+pub mod OwnFacts
+pub mod Apart
 pub mod MadeValues
 pub mod Walking
-pub mod Looking
 pub mod PutBefore
 pub mod Settled

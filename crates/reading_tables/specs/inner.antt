@@ -1,6 +1,7 @@
 -- Words of contracts inside the project.
 pub mod Addends
 pub mod Bounds
+pub mod Numbers
 pub mod Orders
 pub mod Tables
 pub mod Told

@@ -8,7 +8,7 @@ ghost use Rattle.possible_reads.specs.Expressions as expressions;
 ghost use Rattle.possible_reads.specs.Possible as spec;
 ghost use Rattle.reading_tables.specs.inner.Told.{held_of, all_made, written_of, AreExpressions};
 ghost use Rattle.reading_tables.specs.inner.Addends.{addend_by, made_addend};
-ghost use Rattle.reading_tables.specs.inner.Bounds.{AreBounds, least_upon};
+ghost use Rattle.reading_tables.specs.inner.Bounds.{AreBounds, NeverWrapWhere, least_upon};
 
 use crate::expressions::{Expressions, Held, Making, Written};
 use refutations::events::{same_event, writes_to};
@@ -152,13 +152,51 @@ fn bound_of(made: &Expressions, write: &Entry) -> Bound
     }
 }
 
-/// The bound of a write; 0 where nothing is known.
-fn bound_for(test: &Test, events: &[Entry], made: &Expressions, write: &Entry) -> Bound
+/// Of each location, whether nothing wraps there.
+fn each_never_wraps(
+    alloc: Global,
+    test: &Test,
+    events: &[Entry],
+    made: &Expressions,
+) -> Result<Vec<bool>, NoMemory>
     requires events { events.now ≡ events_of test.now }
     requires made { AreExpressions test.now made.now }
+    ensures { IfOk result (λ each. NeverWrapWhere test.now each.items) }
+{
+    let mut each = Vec::new(alloc);
+    for loc in 0..test.locations() {
+        each.push(never_wraps(test, events, made, loc))?;
+    }
+    Ok(each)
+}
+
+/// Whether nothing wraps at this location, where that was told of each.
+fn never_wraps_at(test: &Test, events: &[Entry], made: &Expressions, each: &[bool], loc: u8) -> bool
+    requires events { events.now ≡ events_of test.now }
+    requires made { AreExpressions test.now made.now }
+    requires each { NeverWrapWhere test.now each.now }
+    ensures { result ≡ spec.never_wraps test.now loc }
+{
+    match each.get(usize::from(loc)) {
+        Some(never) => *never,
+        None => never_wraps(test, events, made, loc),
+    }
+}
+
+/// The bound of a write; 0 where nothing is known.
+fn bound_for(
+    test: &Test,
+    events: &[Entry],
+    made: &Expressions,
+    each: &[bool],
+    write: &Entry,
+) -> Bound
+    requires events { events.now ≡ events_of test.now }
+    requires made { AreExpressions test.now made.now }
+    requires each { NeverWrapWhere test.now each.now }
     ensures { (table : List spec.Reading) → least_upon table result.read result.number ≡ spec.least_written test.now table write.now }
 {
-    if never_wraps(test, events, made, write.loc.0) {
+    if never_wraps_at(test, events, made, each, write.loc.0) {
         bound_of(made, write)
     } else {
         Bound {
@@ -181,9 +219,10 @@ pub fn make_bounds(
     requires made { AreExpressions test.now made.now }
     ensures { IfOk result (λ bs. AreBounds test.now made.now.written.items bs.items) }
 {
+    let each = each_never_wraps(alloc, test, events, made)?;
     let mut bounds = Vec::new(alloc);
     for x in &made.written {
-        bounds.push(bound_for(test, events, made, &x.write))?;
+        bounds.push(bound_for(test, events, made, &each, &x.write))?;
     }
     Ok(bounds)
 }

@@ -1,12 +1,14 @@
 //! What is taken as given of a candidate on a branch of a refutation, and what fits it.
-ghost use Rattle.std.specs.Prelude.{◌≡◌};
+ghost use Rattle.std.specs.Prelude.{◌≡◌, IfOk, filter};
 ghost use Rattle.std.specs.List.{list_any, list_all};
 ghost use Rattle.possible_reads.specs.Possible as spec;
 ghost use Rattle.reading_tables.specs.Told.{fact_of, facts_of};
 ghost use Rattle.reading_tables.specs.inner.Told.{told_of};
+ghost use Rattle.reading_tables.specs.inner.Told as inner;
 
 use refutations::events::same_event;
-use tso_terms::{Entry, Prop};
+use std::alloc::Global;
+use tso_terms::{Entry, NoMemory, Prop};
 
 /// An answer to a question on the way to a branch, or a part of what the test asks.
 #[derive(Clone, Copy)]
@@ -43,6 +45,35 @@ fn fits_source(read: &Entry, source: &Option<Entry>, fact: &Fact<'_>) -> bool
         }
         _ => true,
     }
+}
+
+/// Whether it says of this read from what it reads, or what it returns.
+fn speaks_of(read: &Entry, fact: &Fact<'_>) -> bool
+    ensures { result ≡ inner.speaks_of read.now (fact_of fact.now) }
+{
+    match fact {
+        Fact::From(r, ..) | Fact::Returns(r, ..) => same_event(r, read),
+        _ => false,
+    }
+}
+
+/// The facts that say of this read from what it reads, or what it returns.
+///
+/// Errors: out of memory only.
+pub fn facts_of_read<'a>(
+    alloc: Global,
+    facts: &[Fact<'a>],
+    read: &Entry,
+) -> Result<Vec<Fact<'a>>, NoMemory>
+    ensures { IfOk result (λ own. facts_of own.items ≡ filter (inner.speaks_of read.now) (facts_of facts.now)) }
+{
+    let mut own = Vec::new(alloc);
+    for fact in facts {
+        if speaks_of(read, fact) {
+            own.push(*fact)?;
+        }
+    }
+    Ok(own)
 }
 
 /// Whether the facts leave it possible that the read reads from this.

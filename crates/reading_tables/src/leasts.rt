@@ -9,6 +9,7 @@ ghost use Rattle.reading_tables.specs.inner.Bounds.{bounded_by};
 
 use crate::amounts::Bound;
 use crate::facts::Fact;
+use crate::numbers::number_among;
 use crate::tables::{Reading, Told, reading_for};
 use refutations::events::same_event;
 use refutations::values::first_word;
@@ -56,14 +57,13 @@ pub fn least_written(told: Told<'_>, write: &Entry) -> u32
     requires { IsTold told }
     ensures { result ≡ spec.least_written told.entry.test.now (readings_of told.entry.readings.now) write.now }
 {
-    let mut number = 0;
-    for x in told.written {
-        if same_event(&x.write, write) {
-            return told.least[number];
-        }
-        number += 1;
+    match told
+        .least
+        .get(number_among(told.written, told.others_first, write))
+    {
+        Some(least) => *least,
+        None => 0,
     }
-    0
 }
 
 /// The least that the read can return from this source.

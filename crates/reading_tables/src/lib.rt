@@ -7,6 +7,7 @@ pub mod ends;
 pub mod expressions;
 pub mod facts;
 pub mod leasts;
+pub mod numbers;
 pub mod orders;
 pub mod rounds;
 pub mod sources;

@@ -35,19 +35,21 @@ fn told_values(
     }
 }
 
-/// What the read can return from this source.
-fn values_from(
+/// What the read can return from this source, or else one of the others.
+fn values_from_or(
     alloc: Global,
     told: Told<'_>,
     read: &Entry,
     source: &Option<Entry>,
+    others: Option<Vec<u32>>,
 ) -> Result<Option<Vec<u32>>, NoMemory>
     requires { IsTold told }
-    ensures { IfOk result (λ v. known_of v ≡ spec.values_from told.entry.test.now (readings_of told.entry.readings.now) read.now source.now) }
+    ensures { IfOk result (λ v. known_of v ≡ spec.either_of
+        (spec.values_from told.entry.test.now (readings_of told.entry.readings.now) read.now source.now) (known_of others)) }
 {
     match source {
-        None => one(alloc, first_word(told.test, read.loc)),
-        Some(w) => copy(alloc, values_written(told, w)),
+        None => either_of(&one(alloc, first_word(told.test, read.loc))?, others),
+        Some(w) => either_of(values_written(told, w), others),
     }
 }
 
@@ -66,8 +68,7 @@ fn values_from_any(
     let mut left = sources.len();
     while left > 0 {
         left -= 1;
-        let values = values_from(alloc, told, read, &sources[left])?;
-        all = either_of(&values, all)?;
+        all = values_from_or(alloc, told, read, &sources[left], all)?;
     }
     Ok(all)
 }

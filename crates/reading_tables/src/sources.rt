@@ -9,7 +9,7 @@ ghost use Rattle.reading_tables.specs.Told.{facts_of};
 ghost use Rattle.reading_tables.specs.inner.Told.{known_of};
 ghost use Rattle.reading_tables.specs.inner.Tables.{IsTold, reading_of, readings_of};
 
-use crate::facts::{Fact, may_return, same_source, source_fits};
+use crate::facts::{Fact, facts_of_read, may_return, same_source, source_fits};
 use crate::leasts::returns_less;
 use crate::tables::{Reading, Told, are_one, reading_for, values_written};
 use refutations::events::{is_before, same_event, writes_to};
@@ -168,6 +168,43 @@ fn kept_sources(
     Ok(kept)
 }
 
+/// The same with these facts.
+fn with_facts<'a>(told: Told<'a>, facts: &'a [Fact<'a>]) -> Told<'a>
+    requires { IsTold told }
+    ensures told { IsTold result }
+    ensures test { result.test.now ≡ told.entry.test.now }
+    ensures readings { result.readings.now ≡ told.entry.readings.now }
+    ensures facts { result.facts.now ≡ facts.now }
+{
+    Told {
+        test: told.test,
+        events: told.events,
+        makings: told.makings,
+        written: told.written,
+        others_first: told.others_first,
+        facts,
+        readings: told.readings,
+        made: told.made,
+        values: told.values,
+        least: told.least,
+    }
+}
+
+/// Those of these sources from which the read can read: only facts that speak of it tell.
+fn sources_left(
+    alloc: Global,
+    told: Told<'_>,
+    read: &Entry,
+    sources: &[Option<Entry>],
+) -> Result<Vec<Option<Entry>>, NoMemory>
+    requires { IsTold told }
+    ensures { IfOk result (λ ss. ss.items ≡ filter (spec.can_read_from told.entry.test.now (facts_of told.entry.facts.now)
+        (readings_of told.entry.readings.now) read.now) sources.now) }
+{
+    let own = facts_of_read(alloc, told.facts, read)?;
+    kept_sources(alloc, with_facts(told, &own), read, sources)
+}
+
 /// What the read can still read from.
 ///
 /// Errors: out of memory only.
@@ -181,10 +218,10 @@ pub fn sources_after(
         ss.items ≡ spec.sources_after told.entry.test.now (facts_of told.entry.facts.now) (readings_of told.entry.readings.now) read.now) }
 {
     match reading_for(told.readings, read) {
-        Some(x) => kept_sources(alloc, told, read, &x.sources),
+        Some(x) => sources_left(alloc, told, read, &x.sources),
         None => {
             let sources = first_sources(alloc, told.test, told.events, read)?;
-            kept_sources(alloc, told, read, &sources)
+            sources_left(alloc, told, read, &sources)
         }
     }
 }

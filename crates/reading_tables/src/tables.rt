@@ -11,6 +11,7 @@ ghost use Rattle.reading_tables.specs.inner.Tables.{IsProblem, IsTold, AreTableV
 use crate::amounts::{Bound, make_bounds};
 use crate::expressions::{Expressions, Making, Written, make_expressions};
 use crate::facts::{Fact, same_source};
+use crate::numbers::{number_among, others_first};
 use refutations::events::{make_events, same_event, writes_to};
 use std::alloc::Global;
 use tso_terms::{Entry, NoMemory, Test};
@@ -21,6 +22,8 @@ pub struct Problem<'t> {
     pub test: &'t Test,
     pub events: Vec<Entry>,
     pub expressions: Expressions,
+    /// For each core, how many of the first writes are of other cores.
+    pub others_first: Vec<usize>,
     pub bounds: Vec<Bound>,
 }
 
@@ -52,6 +55,7 @@ pub struct Told<'a> {
     pub events: &'a [Entry],
     pub makings: &'a [Making],
     pub written: &'a [Written],
+    pub others_first: &'a [usize],
     pub facts: &'a [Fact<'a>],
     pub readings: &'a [Reading],
     pub made: &'a [Option<Vec<u32>>],
@@ -67,11 +71,13 @@ pub fn make_problem<'t>(alloc: Global, test: &'t Test) -> Result<Problem<'t>, No
 {
     let events = make_events(alloc, test)?;
     let expressions = make_expressions(alloc, test)?;
+    let others_first = others_first(alloc, &expressions.written)?;
     let bounds = make_bounds(alloc, test, &events, &expressions)?;
     Ok(Problem {
         test,
         events,
         expressions,
+        others_first,
         bounds,
     })
 }
@@ -93,6 +99,7 @@ pub fn told_by<'a>(problem: &'a Problem<'a>, facts: &'a [Fact<'a>], table: &'a T
         events: &problem.events,
         makings: &problem.expressions.makings,
         written: &problem.expressions.written,
+        others_first: &problem.others_first,
         facts,
         readings: &table.readings,
         made: &table.made,
@@ -132,12 +139,5 @@ pub fn values_written<'a>(told: Told<'a>, write: &Entry) -> &'a Option<Vec<u32>>
     requires { IsTold told }
     ensures { known_of result.now ≡ spec.values_written told.entry.test.now (readings_of told.entry.readings.now) write.now }
 {
-    let mut number = 0;
-    for x in told.written {
-        if same_event(&x.write, write) {
-            return &told.values[number];
-        }
-        number += 1;
-    }
-    &told.values[number]
+    &told.values[number_among(told.written, told.others_first, write)]
 }

@@ -105,6 +105,7 @@ fn words_by_events(alloc: Global, told: Told<'_>, loc: u8) -> Result<Option<Vec<
         events: told.events,
         makings: told.makings,
         written: told.written,
+        others_first: told.others_first,
         facts: &facts,
         readings: told.readings,
         made: told.made,

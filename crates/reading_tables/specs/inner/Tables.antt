@@ -7,6 +7,7 @@ use Rattle.basic_laws.specs.Types.{Entry}
 use Rattle.refutation_laws.specs.Known.{events_of}
 use Rattle.reading_tables.specs.inner.Told.{held_of, all_made, written_of, known_of, AreExpressions}
 use Rattle.reading_tables.specs.inner.Bounds.{AreBounds, each_least}
+use Rattle.reading_tables.specs.inner.Numbers.{AreOthersFirst}
 use Rattle.reading_tables.specs.declared.expressions.Written.{Written}
 use Rattle.reading_tables.specs.declared.tables.Problem.{Problem}
 use Rattle.reading_tables.specs.declared.tables.Reading.{Reading}
@@ -19,6 +20,7 @@ pub record IsProblem (t : Litmus) (p : Problem) : Type 0 where
   pub test : p.test.now ≡ t
   pub events : p.events.items ≡ events_of t
   pub expressions : AreExpressions t p.expressions
+  pub others_first : AreOthersFirst p.expressions.written.items p.others_first.items
   pub bounds : AreBounds t p.expressions.written.items p.bounds.items
 
 abbrev pub reading_of : Reading → spec.Reading
@@ -45,6 +47,7 @@ pub record AreTableValues (p : Problem) (x : Table) : Type 0 where
 pub record IsTold (told : Told) : Type 0 where
   pub events : told.events.now ≡ events_of told.test.now
   pub written : map (written_of (all_made told.makings.now)) told.written.now ≡ expressions.written told.test.now
+  pub others_first : AreOthersFirst told.written.now told.others_first.now
   pub made : AreMadeValues (readings_of told.readings.now) (all_made told.makings.now) told.made.now
   pub values : AreValues (readings_of told.readings.now) (all_made told.makings.now) told.written.now told.values.now
   pub least : told.least.now ≡ each_least told.test.now (readings_of told.readings.now) told.written.now

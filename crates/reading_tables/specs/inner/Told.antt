@@ -1,5 +1,5 @@
 -- Expressions, values and facts as the code holds them, and the definitions' own that they stand for.
-use Rattle.std.specs.Prelude.{ℕ, ◌≡◌, ◌<◌, ◌≤◌, ◌++◌, List, [], ◌∷◌, map, length, slice_index_or, Option, Some, None, Vec}
+use Rattle.std.specs.Prelude.{Bool, false, ℕ, ◌≡◌, ◌<◌, ◌≤◌, ◌++◌, List, [], ◌∷◌, map, length, slice_index_or, Option, Some, None, Vec}
 use Rattle.std.specs.Global.{Global}
 use Rattle.possible_reads.specs.Possible.{Values}
 use Rattle.tso_terms.specs.Litmus.{Litmus}
@@ -9,6 +9,9 @@ use Rattle.reading_tables.specs.declared.expressions.Written.{Written}
 use Rattle.reading_tables.specs.declared.expressions.Walk.{Walk}
 use Rattle.reading_tables.specs.declared.expressions.Expressions.{Expressions}
 use Rattle.possible_reads.specs.Expressions as spec
+use Rattle.possible_reads.specs.Facts as facts
+use Rattle.refutation_laws.specs.Known.{same_event}
+use Rattle.basic_laws.specs.Types.{Entry}
 use Rattle.reading_tables.specs.declared.expressions.Held.TheVariants as held
 use Rattle.reading_tables.specs.declared.expressions.Making.TheVariants as making
 
@@ -85,6 +88,14 @@ told_writes w = map (written_of (made_in w)) w.written.items
 abbrev pub known_of : Option (Vec ℕ Global) → Values
 known_of None = None
 known_of (Some values) = Some values.items
+
+-- ---- facts
+
+-- it says of this read from what it reads, or what it returns
+abbrev pub speaks_of : Entry → facts.Fact → Bool
+speaks_of read (facts.From r write truth) = same_event r read
+speaks_of read (facts.Returns r value truth) = same_event r read
+speaks_of read _ = false
 
 -- what a fact says of a value
 abbrev pub told_of : Option ℕ → Values
