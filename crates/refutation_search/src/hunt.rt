@@ -3,12 +3,13 @@
 use crate::candidates::Candidates;
 use crate::cores::{Cores, find_core};
 use crate::facts::{Fact, NO_FACT, Question};
+use crate::first_state::first_state;
 use crate::lemmas::{Lemma, Lemmas};
 use crate::looking::{Look, choose, cool, warm};
 use crate::questions::{add_answers, is_noted};
 use crate::setting::Setting;
 use crate::settle::settle;
-use crate::state::{State, empty_state, first_state};
+use crate::state::{State, empty_state};
 use crate::trees::{Trees, Twig};
 use reason_search::lists::{List, NONE};
 use std::alloc::Global;

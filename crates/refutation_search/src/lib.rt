@@ -9,6 +9,7 @@ pub mod cores;
 pub mod counting;
 pub mod edges;
 pub mod facts;
+pub mod first_state;
 pub mod following;
 pub mod hanging;
 pub mod hunt;

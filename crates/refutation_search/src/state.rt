@@ -3,9 +3,8 @@
 use crate::counting::SPARES;
 use crate::facts::{Fact, NO_FACT};
 use crate::leasts::{Least, NOTHING};
-use crate::makings::Term;
 use crate::parts::add_given;
-use crate::sets::{Values, add_value};
+use crate::sets::Values;
 use crate::setting::{COUNTERS, Setting};
 use crate::truths::{OPEN, Truth};
 use reason_search::lists::{List, NONE};
@@ -323,76 +322,4 @@ pub fn add_fact(setting: &Setting<'_>, state: &mut State, fact: Fact) {
         }
         _ => add_one(setting, state, fact),
     }
-}
-
-/// What a read can read from by program order: not a later write of its core, nor what an earlier one has overwritten.
-fn add_sources(setting: &Setting<'_>, state: &mut State, r: usize) {
-    let x = setting.events.at(r).location;
-    let row = Group::Sources.row(setting, r);
-    state.rows.join(row, &setting.writes_to, x);
-    state.rows.add(row, x);
-    let core = setting.events.at(r).core;
-    let mut last = NONE;
-    for w in setting.locations..setting.size {
-        if setting.writes_to.has(x, w) & (setting.events.at(w).core == core) {
-            if w > r {
-                state.rows.remove(row, w);
-            } else {
-                state.rows.remove(row, if last == NONE { x } else { last });
-                last = w;
-            }
-        }
-    }
-    state.sets.add(READS, r);
-}
-
-/// Notes what each event can read or write by the program alone.
-fn add_values(setting: &Setting<'_>, state: &mut State) {
-    for a in 0..setting.size {
-        let reads = setting.events.at(a).reads;
-        if reads {
-            add_sources(setting, state, a);
-        }
-        match setting.terms.at(a) {
-            Term::Number(value) if !reads => add_value(&mut state.values, a, value),
-            _ => state.values.put_any(a),
-        }
-    }
-}
-
-/// Notes which writes can be the last ones, and which come after the initial one.
-fn add_writes(setting: &Setting<'_>, state: &mut State) {
-    for x in 0..setting.locations {
-        state.lasts.join(x, &setting.writes_to, x);
-        let later = Group::Later.row(setting, x);
-        state.rows.join(later, &setting.writes_to, x);
-        state.sets.add(LOCATIONS, x);
-    }
-}
-
-/// Notes the edges that the program alone tells.
-fn add_program(setting: &Setting<'_>, state: &mut State) {
-    for a in (setting.locations..setting.size).rev() {
-        for b in a..setting.size {
-            if setting.program.has(a, b) {
-                add_on_location(setting, state, a, b);
-                if setting.events.at(a).writes & setting.events.at(b).writes {
-                    add_order(setting, state, a, b);
-                }
-            }
-            if setting.program.has(setting.size.wrapping_add(a), b) {
-                add_globally(setting, state, a, b);
-            }
-        }
-    }
-}
-
-/// The branch of what the program alone tells, and of what the claim gives; it isn't settled yet.
-pub fn first_state(alloc: Global, setting: &Setting<'_>) -> State {
-    let mut state = empty_state(alloc, setting);
-    add_values(setting, &mut state);
-    add_writes(setting, &mut state);
-    add_program(setting, &mut state);
-    add_all(setting, &mut state, &setting.given);
-    state
 }
