@@ -18,7 +18,7 @@ all-own p q others (x ∷ xs) = own (p x) (others x) (all-own p q others xs)
     own true h rest = ap (λ c. q x && c) rest
     own false h rest = rest ∙ rw (h refl) refl
 
-any-own : (p q : Fact → Bool) → ((x : Fact) → p x ≡ false → q x ≡ false) → (fs : List Fact) → list_any q (filter p fs) ≡ list_any q fs
+pub any-own : {X : Type 0} (p q : X → Bool) → ((x : X) → p x ≡ false → q x ≡ false) → (fs : List X) → list_any q (filter p fs) ≡ list_any q fs
 any-own p q others [] = refl
 any-own p q others (x ∷ xs) = own (p x) (others x) (any-own p q others xs)
   where

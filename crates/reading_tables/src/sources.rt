@@ -7,7 +7,7 @@ ghost use Rattle.refutation_laws.specs.Refutations as refutations;
 ghost use Rattle.possible_reads.specs.Possible as spec;
 ghost use Rattle.reading_tables.specs.Told.{facts_of};
 ghost use Rattle.reading_tables.specs.inner.Told.{known_of};
-ghost use Rattle.reading_tables.specs.inner.Tables.{IsTold, reading_of, readings_of};
+ghost use Rattle.reading_tables.specs.inner.Tables.{IsTold, is_of_core, reading_of, readings_of};
 
 use crate::facts::{Fact, facts_of_read, may_return, same_source, source_fits};
 use crate::leasts::returns_less;
@@ -15,7 +15,7 @@ use crate::tables::{Reading, Told, are_one, reading_for, values_written};
 use refutations::events::{is_before, same_event, writes_to};
 use refutations::values::first_word;
 use std::alloc::Global;
-use tso_terms::{Entry, Kind, NoMemory, Test};
+use tso_terms::{Core, Entry, Kind, NoMemory, Test};
 
 fn some_returned(values: &[u32], facts: &[Fact<'_>], read: &Entry) -> bool
     ensures { result ≡ list_any (spec.may_return (facts_of facts.now) read.now) values.now }
@@ -67,15 +67,28 @@ fn is_overwritten(events: &[Entry], read: &Entry, w: &Entry) -> bool
     false
 }
 
-/// Whether program order leaves it possible that the read reads from this.
-pub fn is_in_order(test: &Test, events: &[Entry], read: &Entry, source: &Option<Entry>) -> bool
-    requires { events.now ≡ events_of test.now }
+/// The events of a core.
+fn events_of_core(alloc: Global, events: &[Entry], core: Core) -> Result<Vec<Entry>, NoMemory>
+    ensures { IfOk result (λ own. own.items ≡ filter (is_of_core core.0) events.now) }
+{
+    let mut own = Vec::new(alloc);
+    for e in events {
+        if e.core == core {
+            own.push(*e)?;
+        }
+    }
+    Ok(own)
+}
+
+/// Whether program order leaves it possible that the read reads from this, where these are the events of its core.
+fn is_in_order(test: &Test, own: &[Entry], read: &Entry, source: &Option<Entry>) -> bool
+    requires { own.now ≡ filter (is_of_core read.now.core.0) (events_of test.now) }
     ensures { result ≡ spec.is_in_order test.now read.now source.now }
 {
     match source {
-        None => !is_hidden(events, read),
+        None => !is_hidden(own, read),
         // The program of another core orders neither before the other.
-        Some(w) => w.core != read.core || (!is_before(read, w) && !is_overwritten(events, read, w)),
+        Some(w) => w.core != read.core || (!is_before(read, w) && !is_overwritten(own, read, w)),
     }
 }
 
@@ -115,13 +128,14 @@ fn returns_from(told: Told<'_>, read: &Entry, source: &Option<Entry>) -> bool
     }
 }
 
-/// Whether the read can read from this.
-pub fn can_read_from(told: Told<'_>, read: &Entry, source: &Option<Entry>) -> bool
-    requires { IsTold told }
+/// Whether the read can read from this, where these are the events of its core.
+fn can_read_from(told: Told<'_>, own: &[Entry], read: &Entry, source: &Option<Entry>) -> bool
+    requires told { IsTold told }
+    requires own { own.now ≡ filter (is_of_core read.now.core.0) (events_of told.test.now) }
     ensures { result ≡ spec.can_read_from told.entry.test.now (facts_of told.entry.facts.now) (readings_of told.entry.readings.now) read.now source.now }
 {
     source_fits(read, source, told.facts)
-        && is_in_order(told.test, told.events, read, source)
+        && is_in_order(told.test, own, read, source)
         && !is_taken(told.readings, read, source)
         && returns_from(told, read, source)
         && !returns_less(told, read, source)
@@ -152,16 +166,18 @@ pub fn first_sources(
 fn kept_sources(
     alloc: Global,
     told: Told<'_>,
+    own: &[Entry],
     read: &Entry,
     sources: &[Option<Entry>],
 ) -> Result<Vec<Option<Entry>>, NoMemory>
-    requires { IsTold told }
+    requires told { IsTold told }
+    requires own { own.now ≡ filter (is_of_core read.now.core.0) (events_of told.test.now) }
     ensures { IfOk result (λ ss. ss.items ≡ filter (spec.can_read_from told.entry.test.now (facts_of told.entry.facts.now)
         (readings_of told.entry.readings.now) read.now) sources.now) }
 {
     let mut kept = Vec::new(alloc);
     for s in sources {
-        if can_read_from(told, read, s) {
+        if can_read_from(told, own, read, s) {
             kept.push(*s)?;
         }
     }
@@ -201,8 +217,9 @@ fn sources_left(
     ensures { IfOk result (λ ss. ss.items ≡ filter (spec.can_read_from told.entry.test.now (facts_of told.entry.facts.now)
         (readings_of told.entry.readings.now) read.now) sources.now) }
 {
-    let own = facts_of_read(alloc, told.facts, read)?;
-    kept_sources(alloc, with_facts(told, &own), read, sources)
+    let facts = facts_of_read(alloc, told.facts, read)?;
+    let own = events_of_core(alloc, told.events, read.core)?;
+    kept_sources(alloc, with_facts(told, &facts), &own, read, sources)
 }
 
 /// What the read can still read from.

@@ -1,5 +1,5 @@
 -- Tables as the code holds them: what each read can read from and return, and what each write can write.
-use Rattle.std.specs.Prelude.{ℕ, ◌≡◌, List, [], ◌∷◌, ◌++◌, map, Option, Some, None, Vec}
+use Rattle.std.specs.Prelude.{Bool, ℕ, ◌==◌, ◌≡◌, List, [], ◌∷◌, ◌++◌, map, Option, Some, None, Vec}
 use Rattle.std.specs.Borrow.{Bor}
 use Rattle.std.specs.Global.{Global}
 use Rattle.tso_terms.specs.Litmus.{Litmus}
@@ -15,6 +15,9 @@ use Rattle.reading_tables.specs.declared.tables.Table.{Table}
 use Rattle.reading_tables.specs.declared.tables.Told.{Told}
 use Rattle.possible_reads.specs.Expressions as expressions
 use Rattle.possible_reads.specs.Possible as spec
+
+abbrev pub is_of_core : ℕ → Entry → Bool
+is_of_core core e = e.core.0 == core
 
 pub record IsProblem (t : Litmus) (p : Problem) : Type 0 where
   pub test : p.test.now ≡ t

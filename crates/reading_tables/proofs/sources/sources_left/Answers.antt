@@ -22,6 +22,6 @@ returns c =
     c.with_facts.ensures.readings
     ∙ (ap (λ fs. filter (spec.can_read_from told.test.now (facts_of fs) table read) c.args.sources.now)
     (c.with_facts.ensures.facts ∙ c.deref.ensures.value)
-    ∙ (ap (λ fs. filter (spec.can_read_from told.test.now fs table read) c.args.sources.now) c.in_ok-own.ensures
+    ∙ (ap (λ fs. filter (spec.can_read_from told.test.now fs table read) c.args.sources.now) c.in_ok-facts.ensures
     ∙ kept-own told.test.now facts table read c.args.sources.now))) in
     subst (λ kept. IfOk c.kept_sources.result (λ ss. ss.items ≡ kept)) same c.kept_sources.ensures
