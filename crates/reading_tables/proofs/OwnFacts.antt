@@ -4,8 +4,8 @@ use Rattle.reading_tables.proofs.Vocabulary.{filter, list_any, list_all, Entry, 
 use Rattle.std.specs.Prelude.{not}
 use Rattle.refutation_laws.specs.Known.{same_event}
 use Rattle.possible_reads.specs.Facts.{Fact, From, Before, Last, Returns, Holds}
-use Rattle.possible_reads.specs.Possible.{Values, Reading, fits_source, is_in_order, is_taken, can_be, values_from, fits_value, may_return, returns_less, least_from}
-use Rattle.possible_reads.specs.Possible.{can_read_from}
+use Rattle.possible_reads.specs.Possible.{Values, Reading, fits_source, is_in_order, is_taken, can_be, values_from, fits_value, may_return}
+use Rattle.possible_reads.specs.Possible.{returns_less, least_from, can_read_from}
 use Rattle.reading_tables.specs.inner.Told.{speaks_of}
 
 -- a test that the others pass asks no more of all
