@@ -51,27 +51,24 @@ SAID, NEVER_SAID = b"Sometimes", b"Neverever"
 
 # The folder.
 
-def faults_of_texts():
-    made = subprocess.run([os.path.join(TOP, "tools", "page_texts"), "--print"], capture_output=True, text=True).stdout
-    return [] if made == content(VIEW, "texts.js") else ["tools/page --examples makes another"]
+# A script that has texts packed, at its end.
+PACKED = re.compile(r"(.*\n\nconst [A-Z]+ = )'([A-Za-z0-9+/=]+)';\n", re.DOTALL)
 
 
-# The script of the page's own parts: it can do nothing but hold them.
-WHOLE = re.compile(r"// [^\n]*\n'use strict';\n\nconst WHOLE = '([A-Za-z0-9+/=]+)';\n")
+def held(script):
+    """What such a script has: all before the texts that are packed, as it stands, and these; None where it has another form."""
+    found = PACKED.fullmatch(script)
+    return (found.group(1), json.loads(shipped_module.unpacked(found.group(2)))) if found else None
 
 
-def parts_in(script):
-    """The parts that this script has. Other libraries may pack the same texts to other bytes, so the texts are compared."""
-    found = WHOLE.fullmatch(script)
-    return json.loads(shipped_module.unpacked(found.group(1))) if found else None
-
-
-def faults_of_whole():
-    made = subprocess.run([os.path.join(TOP, "tools", "page_whole"), "--print"], capture_output=True, text=True)
+def faults_of_made(name, tool):
+    """How a script differs from what its tool makes. Other libraries may pack the same texts to other bytes, so the texts are compared."""
+    made = subprocess.run([os.path.join(TOP, "tools", tool), "--print"], capture_output=True, text=True)
     if made.returncode != 0:
         return [made.stderr.strip()]
     try:
-        return [] if parts_in(content(VIEW, "whole.js")) == parts_in(made.stdout) else ["tools/page --whole makes another"]
+        wanted = held(made.stdout)
+        return [] if wanted is not None and held(content(VIEW, name)) == wanted else ["tools/%s makes another" % tool]
     except shipped_module.Fault as fault:
         return [str(fault)]
 
@@ -254,7 +251,8 @@ def main():
     parser.add_argument("--twice", action="store_true")
     given = parser.parse_args()
     tally = judging.Tally()
-    tally.add("view/", [("texts.js", faults_of_texts()), ("whole.js", faults_of_whole()), ("the policy", faults_of_policy()), ("the scripts", faults_of_scripts()),
+    tally.add("view/", [("texts.js", faults_of_made("texts.js", "page_texts")), ("whole.js", faults_of_made("whole.js", "page_whole")),
+                        ("the policy", faults_of_policy()), ("the scripts", faults_of_scripts()),
                         ("its size", faults_of_size()), ("histories of steps", faults_of_histories(given.program))])
     if shutil.which("node") is None:
         print("left out, what the page's modules answer: node isn't there: apt-get install -y nodejs")

@@ -20,6 +20,9 @@ async function unpacked(text) {
   return new Uint8Array(await new Response(bytes).arrayBuffer());
 }
 
+/** The value of a text of JSON that was packed so. */
+const openedJson = async text => JSON.parse(new TextDecoder().decode(await unpacked(text)));
+
 /** The test's name, as its first line has it. */
 const testName = () => /^X86[ \t]+(.*)/.exec(byId('test').value)?.[1].trim() ?? 'test';
 
@@ -303,9 +306,9 @@ function tracingOf(tso) {
   return !tells('trace') ? null : tells('step') ? 'step' : 'trace';
 }
 
-/** Makes the machine of the module. Throws where the browser can't open it. */
+/** Makes the machine of the module, and opens the list of texts. Throws where the browser can't open them. */
 async function makeBench() {
-  bench.bytes = await unpacked(MODULE.packed);
+  [bench.bytes] = await Promise.all([unpacked(MODULE.packed), openLibrary()]);
   const tso = await Tso.of(bench.bytes);
   bench.tracing = tracingOf(tso);
   bench.tso = tso;

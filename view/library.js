@@ -34,7 +34,13 @@ function entriesOf(texts, group, isLarger = false) {
   });
 }
 
-const LIBRARY = [...entriesOf(EXAMPLES, 'Examples'), ...entriesOf(ALGORITHMS, 'Algorithms', true), ...entriesOf(GALLERY, 'Orders that would show a forbidden outcome')];
+/** All entries; those of the longer texts as soon as these are open. */
+const LIBRARY = entriesOf(EXAMPLES, 'Examples');
+
+async function openLibrary() {
+  const { gallery, algorithms } = await openedJson(LONGER);
+  LIBRARY.push(...entriesOf(algorithms, 'Algorithms', true), ...entriesOf(gallery, 'Orders that would show a forbidden outcome'));
+}
 
 /** What stands over the orders, at the end of the list: they are no tests. */
 const ORDERS = 'Orders, for the command check';

@@ -3,15 +3,12 @@
 // The page as one file, with what is shown in it: its scripts and styles stand in it, and its policy names their digests.
 
 /** What the scripts of data give their names. */
-const DATA = { 'texts.js': () => ({ EXAMPLES, SHOWS, GALLERY, ALGORITHMS }), 'module.js': () => ({ MODULE }), 'whole.js': () => ({ WHOLE }) };
+const DATA = { 'texts.js': () => ({ EXAMPLES, SHOWS, LONGER }), 'module.js': () => ({ MODULE }), 'whole.js': () => ({ WHOLE }) };
 
 /** A value as a text of JavaScript in which nothing ends a script. */
 const literalOf = value => JSON.stringify(value).replaceAll('<', '\\u003c');
 
 const dataScript = values => `'use strict';\n\n${Object.entries(values).map(([name, value]) => `const ${name} = ${literalOf(value)};\n`).join('')}`;
-
-/** The page, its scripts and its styles as texts. */
-const openedWhole = async () => JSON.parse(new TextDecoder().decode(await unpacked(WHOLE)));
 
 /** A text's digest, as a policy names it. */
 async function digestOf(text) {
@@ -34,7 +31,7 @@ const taughtPart = text => (text === '' ? '' : `<meta name="taught" content="${i
 
 /** The whole page as one text, which opens what this address tells, or the first test of the list, and brings along a text of lessons and tests. */
 async function wholePage(address, brought = taughtNow()) {
-  const whole = await openedWhole(), scriptText = name => whole.scripts[name] ?? dataScript(DATA[name]());
+  const whole = await openedJson(WHOLE), scriptText = name => whole.scripts[name] ?? dataScript(DATA[name]());
   const scripts = [...whole.page.matchAll(/<script src="([a-z]+\.js)">/g)].map(([, name]) => scriptText(name)), styles = Object.values(whole.styles);
   const [ofScripts, ofStyles] = await Promise.all([scripts, styles].map(async texts => (await Promise.all(texts.map(digestOf))).join(' ')));
   const head = whole.page.replace('script-src \'self\'', () => `script-src ${ofScripts}`).replace('style-src \'self\'', () => `style-src ${ofStyles}`)
