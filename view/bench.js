@@ -5,7 +5,7 @@
 /**
  * The module and what it was made of, a long task while it runs, and the answer that is shown with its command; null while a machine
  * is driven on from it. `tracing` is what the module tells of steps: `step` alone and the whole trace, the whole `trace`, or null.
- * `hasLargerSet` is whether it has the larger set of instructions. `took` is how many milliseconds the last long answer took, and `again` is the
+ * `hasLargerSet` is whether it has the larger set of instructions. `took` is how many milliseconds the last answer to `why` took, and `again` is the
  * timer of one that comes by itself.
  */
 const bench = { tso: null, bytes: null, task: null, answer: null, tracing: null, hasLargerSet: false, took: Infinity, again: null };
@@ -202,11 +202,13 @@ function saidInBrief() {
   return !byId('brief').hidden;
 }
 
+const HIGH = 0.25; // of the window's height: an answer that begins there is in sight at the page's start
+
 /** Puts the focus on the answer that was asked for, and brings it into sight. */
 function focusAnswer() {
   const title = byId('states').querySelector('.answer-title') ?? byId('report');
   const top = lesson.told !== null ? byId('lesson') : byId('way-back').hidden ? title : byId('way-back');
-  if (isLecture()) scrollTo(0, 0);
+  if (isLecture() || top.getBoundingClientRect().top + scrollY < HIGH * innerHeight) scrollTo(0, 0);
   else top.scrollIntoView({ block: 'start' });
   const said = title === byId('report') ? null : title.parentElement.querySelector('[role=status]');
   if (said) {

@@ -2,7 +2,7 @@
 
 // Events and edges drawn over the programs: a cycle, edge by edge, or an execution. All measures are pixels.
 
-const EVENTS = { least: 120, side: 44, code: 20, box: 26, gap: 6, head: 30, thin: 26, letter: 8, place: 4, smaller: 0.75 };
+const EVENTS = { least: 120, side: 44, code: 20, box: 26, gap: 6, head: 30, thin: 26, letter: 8, place: 4, smaller: 0.7 };
 
 /** The events that edges name, each once. */
 const eventsOf = edges => [...new Map(edges.flatMap(({ from, to }) => [from, to]).map(text => [nameOfEvent(text), eventOf(text)])).values()];
@@ -132,11 +132,12 @@ function drawExecution(programs, edges, few, name, tell = () => {}) {
   const fewer = few.length < edges.length ? [`Drawn are ${few.length} of ${edges.length} arrows, those at what is asked for.`] : [];
   const left = [...fewer, ...(isWhole ? [] : [`${leftOutSaid(programs, few)}${fewer.length > 0 ? ' of these' : ''}: left out.`])];
   const box = html('input', { type: 'checkbox' }), place = html('div', {}, draw(false));
-  const words = html('p', { class: 'buttons small' }, html('span', {}, left.join(' ')), html('label', {}, box, ' Draw all'));
+  const said = html('span', {}, left.join(' ')), words = html('p', { class: 'buttons small' }, said, html('label', {}, box, ' Draw all'));
   const part = html('div', { class: 'drawn-part' }, words, place);
   const take = () => { part.style.flex = place.firstChild.style.flex; };
   box.addEventListener('change', () => {
     place.replaceChildren(draw(box.checked));
+    putText(said, box.checked ? `Drawn are all ${edges.length} arrows.` : left.join(' '));
     tell(box.checked ? edges : few);
     take();
   });

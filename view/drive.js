@@ -100,7 +100,7 @@ function refuseStall({ histories: [history], count }, word) {
   putDrive({ core: coreOfChoice(word) });
   markCore();
   for (const panel of drawn.panels) panel.offerStall(word);
-  sayOfDriving(`${why} So ${word} does nothing.`);
+  sayOfDriving(`${why} So ${word} does nothing. “stall” makes it all the same.`);
 }
 
 /** Where no step came of a choice: leaves it out, with all that would come after it, and keeps what is said of it. */

@@ -48,8 +48,9 @@ function startSentence(history) {
 
 /** In a lecture, at a run's end: which test of the list a clicker opens next. */
 function nextSentence() {
-  const next = taught.list[playlist.at + 1];
-  return isLecture() && next !== undefined && drive.count > 0 && isAtEnd(drive) ? ` Next: ${next.name}.` : '';
+  const { at } = playlist, next = taught.list[at + 1];
+  if (!isLecture() || at < 0 || drive.count === 0 || !isAtEnd(drive)) return '';
+  return next === undefined ? ` ${LIST_END}.` : ` Next: ${next.name}.`;
 }
 
 function showMoves() {

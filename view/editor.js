@@ -151,6 +151,16 @@ function plainRefusal(place, cell, line) {
   return `${place.field === 'given' ? 'Order, line' : 'Line'} ${place.line}${cell === null ? '' : `, P${cell.core}`}: ${why}.`;
 }
 
+/** Puts the caret at the line that is marked, and brings it into sight. */
+function focusRefusal() {
+  const id = ['test', 'given'].find(each => !byId(each + '-band').hidden), field = byId(id ?? 'test'), line = Number(byId(field.id + '-band').dataset.line);
+  const at = field.value.split('\n').slice(0, Math.max(0, line - 1)).join('\n').length;
+  field.setSelectionRange(at + (line > 1), at + (line > 1));
+  field.focus({ preventScroll: true });
+  byId('told').scrollIntoView({ block: 'nearest' });
+  byId(field.id + '-band').scrollIntoView({ block: 'nearest' });
+}
+
 /** Marks what is refused, or nothing, and says it in plain words. */
 function markRefusal({ text: line, hint }) {
   const place = placeOfRefusal(line), cell = place?.field === 'test' ? cellAtFault(byId('test').value.split('\n')[place.line - 1] ?? '', hint ?? '') : null;

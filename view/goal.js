@@ -93,7 +93,9 @@ function missedSentence(history, count, quantifier) {
 /** That it is done; where misses were to be counted, how many there are. */
 function doneWord(history, count) {
   const isCounted = TASKS[`${testName()} ${history.proposition}`]?.includes('misses') && showsCaches(drivenMachines());
-  return isCounted ? `Done, with ${tallyText(history.steps, count).replace('so far ', '')}.` : 'Done.';
+  if (!isCounted) return 'Done.';
+  const under = drive.histories.length > 2 ? `Under ${history.options.protocol.toUpperCase()}: ` : 'With ';
+  return `Done. ${under}${tallyText(history.steps, count).replace('so far ', '')}.`;
 }
 
 /** What is said after a try. */
@@ -102,7 +104,8 @@ function afterTry(history, count, met, quantifier) {
   if (!met) return ` ${missedSentence(history, count, quantifier)} Go back, or make other choices.`;
   const claim = quantifier === 'exists' ? '' : ' So the claim of the test is wrong.';
   const passes = passesOf(history.order.slice(0, history.momentAfter(count).rows), '').filter(sentence => sentence !== '');
-  return ` ${doneWord(history, count)}${claim} ${passes.join(' ')}`.trimEnd();
+  const more = passes.length > MOST_PASSES ? ` And ${passes.length - MOST_PASSES} more.` : '';
+  return ` ${doneWord(history, count)}${claim} ${passes.slice(0, MOST_PASSES).join(' ')}${more}`.trimEnd();
 }
 
 /** Shows the task, and when it is met why, by what the loads passed. `run` is the run, where it has ended. After a try that missed what

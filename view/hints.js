@@ -9,6 +9,9 @@ const IN_WORDS_OF_THE_PAGE = [
   ['put a line ==== between the test and the choices', 'choices stand in their own field'],
   ['put a line ==== between the test and the order', 'an order stands in its own field'],
   ['tso why needs no states', 'why needs no states'],
+  ['name fewer atoms', 'name fewer registers and locations'],
+  ['the proposition', 'the condition'],
+  ['lower --depth', 'lower --depth (then it is less than TSO)'],
   ['the tool import', 'the program tools/import of a checkout'],
   [' after ====: ', ' of it: '],
 ];
@@ -18,7 +21,7 @@ const FAULTS = {
   NoHeader: 'the first line has to be X86, a space, and a name', Unclosed: 'a comment, the initial state or a row doesn’t end',
   BadToken: 'something here can’t be read',
   BadInit: 'this doesn’t fit into the initial state', BadHeaderRow: 'the row of cores isn’t written as P0 | P1 ;',
-  WrongCells: 'this row hasn’t one cell for each core',
+  WrongCells: 'this row doesn’t have one instruction for each core',
   BadInstruction: 'this instruction can’t be read', BadNumber: 'a number is over 4294967295', TwiceInit: 'something gets its value twice',
   NoSuchCore: 'there is no such core',
   TooLarge: 'something is over its limit', BadCondition: 'this doesn’t fit into the condition', Trailing: 'something comes after the end of the test',

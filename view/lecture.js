@@ -51,36 +51,44 @@ function clickLesson(isOn) {
 }
 
 const SCROLLED = 0.8; // of the window's height, where a clicker has nothing to step
+const BELOW = 16; // pixels below a sheet, which needn't be scrolled to
 
 const listedNext = () => taught.list[playlist.at + 1];
 
 /** What a clicker comes to before the start of a sheet: the test before it in the list, or the run of which the sheet is. */
 const clickBefore = () => (isOfEntry() ? openListed(playlist.at - 1, true) : backToRun());
 
-/** What a clicker does to a sheet that isn't a machine: it scrolls, and after its end comes the next test of the list, and before its start the one before. */
+/** Whether what is shown was asked for in the middle of a run. */
+const isInRun = () => !isOfEntry() && ownRun.kept !== null && ownRun.kept.count < countChoices(ownRun.kept.choices);
+
+/** Whether something comes after the end of a sheet: the rest of the run in which it was asked for, or the next test of the list. */
+const hasAfter = () => isInRun() || listedNext() !== undefined;
+const clickAfter = () => (isInRun() ? backToRun() : openListed(playlist.at + 1));
+
+/** What a clicker does to a sheet that isn't a machine: it scrolls, and after its end and before its start comes what is there. */
 function clickSheet(isOn) {
-  const isEnd = scrollY + innerHeight >= document.documentElement.scrollHeight - 1;
-  if (isOn && isEnd && listedNext() !== undefined) return openListed(playlist.at + 1);
+  const isEnd = scrollY + innerHeight >= document.documentElement.scrollHeight - BELOW;
+  if (isOn && isEnd && hasAfter()) return clickAfter();
   if (!isOn && scrollY === 0) return clickBefore();
   return scrollBy({ top: (isOn ? SCROLLED : -SCROLLED) * innerHeight });
 }
 
-/** Where no choice is known: says what to press. By a second press comes the next test of the list. */
+/** Where no choice is known: says what to press. By a second press come the choices that were left, or the next test of the list. */
 function clickUnknown() {
-  const next = listedNext(), onward = next === undefined ? '' : ` Once more for the next test: ${next.name}.`;
+  const [left] = otherBranches(), next = listedNext(), onward = left ? 'what was to come' : next && `the next test: ${next.name}`;
   const known = `No ${drive.count === 0 ? '' : 'more '}choices yet, so PageDown has nothing to step`;
-  const said = `${known}: press a step or a drain of a core, or begin a lesson.${onward}`;
-  if (next !== undefined && byId('sentence').textContent === said) return openListed(playlist.at + 1);
-  return sayOfDriving(said);
+  const said = `${known}: press a step or a drain of a core.${onward ? ` Once more for ${onward}.` : ''}`;
+  if (!onward || byId('sentence').textContent !== said) return sayOfDriving(said);
+  return left ? takeBranch(0) : openListed(playlist.at + 1);
 }
 
 /** Steps the cycle that is drawn, the lesson, or the machine; after the end of either comes the next test of the list. */
 function click(isOn) {
   const { cycle } = sheet, isDrawn = cycle !== null && cycle.element.isConnected && !drive.isOn, isCycleOver = isDrawn && isOn && cycle.shown === cycle.cycle.length;
   if (isDrawn && !isOn && cycle.shown === 1 && lesson.told === null) return clickSheet(isOn);
-  if (isDrawn && !(isCycleOver && (lesson.told !== null || listedNext() !== undefined))) return cycle.move(isOn ? 'next' : 'back');
+  if (isDrawn && !(isCycleOver && (lesson.told !== null || hasAfter()))) return cycle.move(isOn ? 'next' : 'back');
   if (lesson.told !== null) return clickLesson(isOn);
-  if (isCycleOver) return openListed(playlist.at + 1);
+  if (isCycleOver) return clickAfter();
   if (!drive.isOn) return clickSheet(isOn);
   const isLast = isOn && drive.count === drive.words.length;
   if (isLast) return isAtEnd(drive) ? openListed(playlist.at + 1) : clickUnknown();

@@ -2,9 +2,10 @@
 
 // A lesson that runs: its steps are told, asked, and done on the machine. The lessons themselves are data (lessons.js, taught.js).
 
-const IN_LESSON = Object.freeze({ told: null, at: 0, isDone: false, answer: null });
+const IN_LESSON = Object.freeze({ told: null, at: 0, isDone: false, answer: null, refused: '' });
 
-/** The lesson that runs (`told`, null while none does), the number of its step, whether what the step wants is done, and what was answered. */
+/** The lesson that runs (`told`, null while none does), the number of its step, whether what the step wants is done, what was answered, and what
+ * is said of a press that the step doesn't want (`refused`). */
 let lesson = IN_LESSON;
 
 const putLesson = changes => { lesson = Object.freeze({ ...lesson, ...changes }); };
@@ -31,7 +32,14 @@ const LESSON_SHOWS = {
   outcomes: { says: 'Find all outcomes', act: () => findOutcomes() },
   why: { says: 'Why can or can’t it be?', act: () => askWhy() },
   abreast: { says: 'All four protocols', act: () => putBeside(JSON.stringify(ABREAST)) },
+  apart: { says: 'One word in a line', act: () => putApart() },
 };
+
+/** Puts each location into a line of its own. */
+function putApart() {
+  settingOf('words').value = 1;
+  keepPosition(answerNow);
+}
 
 /** Begins a lesson at a step. */
 function beginLesson(name, at = 0) {
@@ -59,7 +67,7 @@ function putTestOf({ text, test, settings = {} }, choices) {
 /** Comes to a step. After what a step showed the page stays as it is. */
 function enterStep(at) {
   const { steps } = lesson.told, isAfterShown = at === lesson.at + 1 && steps[lesson.at].show !== undefined && lesson.isDone;
-  putLesson({ at, answer: null, isDone: steps[at].say !== undefined && steps[at].do === undefined && steps[at].show === undefined });
+  putLesson({ at, answer: null, refused: '', isDone: steps[at].say !== undefined && steps[at].do === undefined && steps[at].show === undefined });
   if (!isAfterShown) putTestOf(testOf(lesson.told, at), choicesBefore(steps, at));
   drawLesson();
   lookAtPicture();
@@ -117,8 +125,15 @@ function lessonAllows(word) {
   const wanted = lesson.isDone ? undefined : stepNow().do, count = choicesBefore(lesson.told.steps, lesson.at).length;
   if (word === wanted && drive.count !== count) goTo(count);
   if (word === wanted) return true;
-  sayOfDriving(wanted ? `The lesson goes on with ${wanted}. Leave it to go your own way.` : 'The lesson goes on with its own buttons, above. Leave it to go your own way.');
+  refuseInLesson(wanted);
   return false;
+}
+
+/** Says in the lesson's box why a press does nothing. */
+function refuseInLesson(wanted) {
+  const now = wanted ? `The lesson goes on with ${wanted}` : lesson.isDone ? 'The lesson goes on with Next' : 'First answer here';
+  putLesson({ refused: `${now}. Leave the lesson to go your own way.` });
+  drawLesson();
 }
 
 /** Whether a lesson tells what happens, so that the sentence over the machine needn't. At its last step each choice is free. */
@@ -131,13 +146,13 @@ function lessonTells() {
 /** Goes on where a choice was the one that the step waits for. */
 function lessonDid(word) {
   if (lesson.told === null || lesson.isDone || stepNow().do !== word) return;
-  putLesson({ isDone: true });
+  putLesson({ isDone: true, refused: '' });
   drawLesson();
   lookAtPicture();
 }
 
 function answerLesson(answer) {
-  putLesson({ isDone: true, answer });
+  putLesson({ isDone: true, answer, refused: '' });
   drawLesson();
   if (drive.isOn) showDrive(); // what was refused before isn't any more
   byId('lesson-next').focus();
@@ -145,7 +160,7 @@ function answerLesson(answer) {
 
 function showInLesson() {
   const { act } = LESSON_SHOWS[stepNow().show];
-  putLesson({ isDone: true });
+  putLesson({ isDone: true, refused: '' });
   drawLesson();
   act();
 }
@@ -160,13 +175,14 @@ function judgedAnswer({ right, because }, answer) {
 
 /** Says what a step tells, and when it is done what came of it. */
 function showSentences() {
-  const step = stepNow(), { isDone, answer } = lesson, after = step.ask === undefined ? step.then : answer === null ? undefined : judgedAnswer(step, answer);
+  const step = stepNow(), { isDone, answer, refused } = lesson, after = step.ask === undefined ? step.then : answer === null ? undefined : judgedAnswer(step, answer);
   putText(byId('lesson-said'), step.ask ?? step.say);
-  byId('lesson-after').hidden = !(isDone && after);
-  putText(byId('lesson-after'), isDone && after ? after : '');
+  const said = [isDone ? after : '', refused].filter(Boolean).join(' ');
+  byId('lesson-after').hidden = said === '';
+  putText(byId('lesson-after'), said);
   const isJudged = step.right !== undefined;
-  byId('lesson-after').classList.toggle('wrong', isJudged && answer !== step.right);
-  byId('lesson-after').classList.toggle('right', isJudged && answer === step.right);
+  byId('lesson-after').classList.toggle('wrong', refused !== '' || (isJudged && answer !== step.right));
+  byId('lesson-after').classList.toggle('right', refused === '' && isJudged && answer === step.right);
 }
 
 function lessonButtons() {

@@ -16,7 +16,8 @@ const LESSONS = [
       {
         do: '0s',
         say: 'Let P0 take its first step. Press the button 0s, “step MOV [x],$1”.',
-        then: 'The store x=1 waits in P0’s store buffer. Memory has not seen it: x is still 0 there.',
+        then: 'The store x=1 waits in P0’s store buffer. Memory has not seen it: x is still 0 there. In the picture it is the bar, and the 0 over it is the ' +
+          'number of its instruction.',
       },
       { do: '1s', say: 'Now P1’s first step: 1s.', then: 'The store y=1 waits in P1’s buffer. Memory still has 0 for both.' },
       {
@@ -42,8 +43,7 @@ const LESSONS = [
         do: '0d',
         say: 'Drain P0’s store: 0d. A processor drains it at some moment of its own; here you choose the moment.',
         look: 'picture',
-        then: 'Memory has x=1 now. In the picture W is the store, and the bar shows how long it had waited. The number over the bar is that of its ' +
-          'instruction.',
+        then: 'Memory has x=1 now. In the picture W is the store, and the bar shows how long it had waited.',
       },
       {
         do: '1d',
@@ -125,8 +125,8 @@ const LESSONS = [
       },
       {
         say: 'It can never be. If both loads read 0 there is a cycle: each load comes before the other core’s store, since it read the older value (fr, from ' +
-          'read), and each store comes before its own core’s load, since a fence stands between (mfence). Then an event would come before itself. Press ' +
-          '“Next arrow” to follow the cycle arrow by arrow.',
+          'read). And each store comes before its own core’s load, since a fence stands between (mfence). So a store would come before itself in memory ' +
+          'order. Press “Next arrow” to follow the cycle arrow by arrow.',
       },
       {
         say: 'In C and C++ such a fence is atomic_thread_fence(memory_order_seq_cst). There x and y have to be atomic: with plain variables the compiler may ' +
@@ -151,7 +151,8 @@ const LESSONS = [
       },
       {
         say: 'Each copy has a state. M, modified: the only copy, and newer than memory. S, shared: others may have copies too. I, invalid: no copy. A core ' +
-          'may write a line only if it has the only copy. These three states give the protocol its name, MSI.',
+          'may write a line only if it has the only copy. These three states give the protocol its name, MSI. MESI adds E, exclusive: ' +
+          'the only copy, as memory has it.',
       },
       { say: 'In this test P0 only uses x, and P1 only uses y. They share no variable, but x and y lie in one line. Do the two cores disturb each other?' },
       { do: '0s', say: 'P0 stores x: 0s.', then: 'The store waits in the buffer, as before. The caches have nothing yet.' },
@@ -180,7 +181,10 @@ const LESSONS = [
       },
       {
         say: 'MSI and MESI send the line to memory when P1 reads it (a flush), and both copies become S. MOESI and MOSI don’t: P0 keeps it as O, owned, and ' +
-          'supplies the words. No protocol takes the false sharing away. One word in a line does: open the settings, and put “Words of a line” to 1.',
+          'supplies the words. No protocol takes the false sharing away. What if each word has a line of its own? Press “One word in a line”.',
+        show: 'apart',
+        then: 'Under each protocol there are 2 misses now, not 4: each core has its own line, and keeps it. So one puts words that different cores use into ' +
+          'different lines.',
       },
     ],
   },

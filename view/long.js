@@ -10,7 +10,7 @@ const TYPING = 300; // milliseconds without an edit
 function showRefusalAlone(command) {
   const answer = asked({ command: 'run' }, inputOf(command)), isRefused = answer.status === Tso.STATUS.refused;
   const isLive = command === 'why' && !isRefused && bench.took < QUICK;
-  const isAnswered = byId('states').childElementCount > 0 && bench.answer?.status === Tso.STATUS.good;
+  const isAnswered = byId('states').childElementCount > 0 && bench.answer?.text.startsWith('{');
   clearTimeout(bench.again);
   if (isLive && isAnswered) bench.again = setTimeout(() => currentCommand() === 'why' && begin({ isAgain: true }), TYPING);
   else showAnswer(isRefused ? answer : { status: 0, text: '', hint: '' });
@@ -37,9 +37,10 @@ async function begin({ isAgain } = {}) {
     const answers = await task.answers;
     if (bench.task !== task) return;
     stopTask();
-    bench.took = Date.now() - began;
+    if (command === 'why') bench.took = Date.now() - began;
     showLong(command, answers, options, input);
-    if (command !== 'run' && !saidInBrief()) focusAnswer();
+    if (bench.answer.status === Tso.STATUS.refused) focusRefusal();
+    else if (command !== 'run' && !saidInBrief()) focusAnswer();
   } catch (fault) {
     if (bench.task !== task) return;
     stopTask();
@@ -91,7 +92,7 @@ function showOutcomes(answer, beside, test) {
   foldReport(answer);
   const said = [observationSentence(outcomes, test), sequential ? besideSentence(outcomes, sequential) : ''].join(' ').trim();
   const sheetOfAll = statesSheet(outcomes, sequential, truthsOf(outcomes, test));
-  byId('states').replaceChildren(answerTitle('All final states'), html('p', { role: 'status' }, ...firstStrong(said)), ...sheetOfAll);
+  byId('states').replaceChildren(answerTitle('All outcomes'), html('p', { role: 'status' }, ...firstStrong(said)), ...sheetOfAll);
 }
 
 /** Shows what a search had met when it came to its limit or was stopped: some of the final states, or none. */
@@ -102,5 +103,5 @@ function showMet(answer, depth, isStopped = false) {
   foldReport(answer);
   const truths = met.states.every(({ holds }) => typeof holds === 'boolean') ? met.states.map(({ holds }) => holds) : null;
   const said = html('p', { role: 'status' }, metSentence(met, isStopped));
-  byId('states').replaceChildren(answerTitle('Some final states'), said, waysOn('outcomes', { isStopped }), ...statesSheet({ ...met, depth }, null, truths));
+  byId('states').replaceChildren(answerTitle('Some outcomes'), said, waysOn('outcomes', { isStopped }), ...statesSheet({ ...met, depth }, null, truths));
 }

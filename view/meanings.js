@@ -14,7 +14,7 @@ const MEANINGS = {
   Under: 'TSO alone: such an end needs store buffers. Sequential consistency has none like it.',
   Condition: 'Whether the proposition of the test’s condition is true of this end.',
   seed: 'A number from which choices are drawn at random. The same seed draws the same choices.',
-  exercise: 'One file of the whole page, with this test and its settings: no choices, no list, so that nothing is solved.',
+  exercise: 'One file of the whole page, with this test and its settings: no choices and no list. Who has it can still ask for all outcomes, and why.',
   lecture: 'Large type, and only what is taught. A clicker’s keys, PageDown and PageUp, step lessons, runs, reasons, and a list of tests.',
   beside: 'Another machine that makes the same choices, so that one sees what differs.',
   depth: 'How many stores wait at most in a core’s store buffer. With 0 there is none: that is sequential consistency. ' +
@@ -47,7 +47,7 @@ const INSTRUCTIONS = [
   ['an exchange and add', /^LOCK\s+XADD\b/i, 'In one step: reads the location and writes the sum of its word and the register. The register gets the word that was read.'],
   ['an exchange', /^XCHG\b.*\[/i, 'In one step, as with LOCK: reads the location and writes the register to it. The register gets the word that was read.'],
   ['a locked operation', /^LOCK\b/i, 'In one step: reads the location, computes, and writes it. No other core comes between, and the store buffer has to be empty before.'],
-  ['a store', /^MOV\s+\[/i, 'A store: the word goes into the store buffer of this core, and to memory later, when it drains.'],
+  ['a store', /^MOV\s+\[/i, 'A store: the value goes into the store buffer of this core, and to memory later, when it drains.'],
   ['a load', /^MOV\b.*\[/i, 'A load: the register gets the newest own store to the location that waits in the buffer, and else memory’s word.'],
   ['a fence', /^MFENCE\b/i, 'A fence: it waits until the store buffer of its core is empty.'],
   ['an instruction that does nothing', /^NOP\b/i, 'It does nothing. PAUSE, LFENCE and SFENCE are read as this one: under TSO they add nothing.'],

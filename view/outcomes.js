@@ -11,18 +11,18 @@ function readOutcomes(text) {
 /** The sentence on top: in plain words how many states are as the condition says, and after it the words of the field. `test` is the text of
  * the test, whose condition has the words. */
 function observationSentence({ states, observation, verdict, depth }, test) {
-  const full = lesson.told === null ? ' (buffers of 32 stores, so never full)' : '';
+  const full = lesson.told === null && !isLecture() ? ' (buffers of 32 stores, so never full)' : '';
   const where = depth === 32 ? `under TSO${full}` : depth === 0 ? 'under sequential consistency' : `with store buffers of depth ${depth}`;
-  if (observation === null) return `${states.length === 1 ? 'One final state' : `${states.length} final states`} ${where}. The test has no condition.`;
+  if (observation === null) return `${states.length === 1 ? 'One outcome' : `${states.length} outcomes`} ${where}. The test has no condition.`;
   const { word, true: yes, false: no } = observation;
-  return `${countSentence(states.length, yes, where, test)} Observation: ${word} (true in ${yes} of the states, false in ${no}).${verdictWords(verdict)}`;
+  return `${countSentence(states.length, yes, where, test)} Observation: ${word} (true in ${yes}, false in ${no}).${verdictWords(verdict)}`;
 }
 
 /** How many of the states are as the condition says. Where it asks whether any is, the sentence begins with yes or no. */
 function countSentence(all, yes, where, test) {
   const { proposition } = readTest(test), wanted = proposition && wantedWords(proposition), said = wanted ? wantedSentence(wanted) : 'what the condition says';
   const isAsked = quantifierOf(test) !== 'forall', few = yes === 0 ? 'none' : String(yes);
-  const count = `${few} of ${all} final ${all === 1 ? 'state' : 'states'} ${where} ${yes > 1 ? 'have' : 'has'} ${said}.`;
+  const count = `${few} of ${all} ${all === 1 ? 'outcome' : 'outcomes'} ${where} ${yes > 1 ? 'have' : 'has'} ${said}.`;
   return isAsked ? `${yes > 0 ? 'Yes' : 'No'}: ${count}` : count[0].toUpperCase() + count.slice(1);
 }
 
@@ -34,7 +34,7 @@ function readMet(text) {
 }
 
 function metSentence({ states, verdict, unfinished }, isStopped) {
-  const many = states.length === 1 ? 'One of the final states was' : `${states.length} of the final states were`;
+  const many = states.length === 1 ? 'One of the outcomes was' : `${states.length} of the outcomes were`;
   const kept = `${unfinished.states.toLocaleString('en')} states`, limit = `The search kept ${kept}, its limit, and didn't end. ${many} met before that`;
   return `${isStopped ? `The search was stopped. ${many} met among its first ${kept}` : limit}; there may be others.${verdictWords(verdict)}`;
 }
@@ -45,7 +45,7 @@ const valuesText = values => Object.entries(values).map(([name, word]) => `${nam
 function besideSentence(outcomes, sequential) {
   const isNew = newStates(outcomes, sequential), count = isNew.filter(Boolean).length;
   const word = sequential.observation === null ? '' : ` (observation ${sequential.observation.word})`;
-  const many = sequential.states.length === 1 ? 'one final state' : `${sequential.states.length} final states`;
+  const many = sequential.states.length === 1 ? 'one outcome' : `${sequential.states.length} outcomes`;
   return `Sequential consistency has ${many}${word}: ${count === 0 ? 'none is new here' : `${count} ${count === 1 ? 'is' : 'are'} new here`}.`;
 }
 
@@ -70,6 +70,14 @@ function truthsOf({ states, observation, depth }, test) {
   return truths.includes(null) ? null : truths;
 }
 
+const LONG_CHOICES = 80; // letters, from which on choices are folded
+
+/** Choices, folded where they are many. */
+function foldedChoices(choices, before = '') {
+  if (choices.length < LONG_CHOICES) return [choices === '' ? '(none)' : choices];
+  return [html('details', { class: 'small' }, html('summary', {}, `${before}${countChoices(choices)} choices`), html('code', {}, choices))];
+}
+
 /** A row for each state; its button has the choices, which `loadChoices` takes. Beside them, where it is known, whether sequential
  * consistency has the state too, and whether the condition is true of it. */
 function outcomesTable(outcomes, sequential, truths) {
@@ -79,7 +87,7 @@ function outcomesTable(outcomes, sequential, truths) {
     ...names.map(name => html('td', { class: 'number' }, String(values[name]))),
     ...(sequential ? [html('td', { class: 'unbroken' }, isNew[at] ? html('strong', {}, 'TSO alone') : 'TSO and SC')] : []),
     ...(truths ? [html('td', {}, truths[at] ? '✓ true' : 'false')] : []),
-    html('td', { class: 'wraps way' }, choices === '' ? '(none)' : choices),
+    html('td', { class: 'wraps way' }, ...foldedChoices(choices)),
     html('td', {}, html('button', { type: 'button', 'data-choices': choices, 'data-depth': outcomes.depth, 'aria-label': `Run to ${valuesText(values)}` }, 'Run them')))));
   if (outcomes.unfinished === undefined) sheet.querySelector('table').append(...neverRow(names, titles.length, truths));
   return sheet;

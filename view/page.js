@@ -193,7 +193,7 @@ function beginAtFirst() {
 /** Shows what the page is about, its lessons, and what a saved page brings along. It is folded where somebody was led to a test. */
 function beginTeaching(told) {
   byId('about').hidden = false;
-  byId('about').open = told === '';
+  byId('about').open = told === '' || (told === savedAddress() && !told.includes('choices='));
   drawLessons();
   takeSavedTaught();
 }

@@ -6,6 +6,7 @@
  * null where there is none; whether the bar names that test, since what is shown is of it; and whether one came to it from the next one. */
 const playlist = { at: -1, said: null, isEntry: false, isFromBehind: false };
 
+const LIST_END = 'The end of the list';
 const MOST_NAME = 80; // characters of an entry's name
 const MOST_LISTED = 400000; // characters of a list that the browser keeps
 
@@ -111,10 +112,11 @@ const listButton = (attributes, text, isOff = false) => html('button', { type: '
 function drawBar(isEntry) {
   const { list } = taught, { at } = playlist;
   const all = `${list.length} ${list.length === 1 ? 'test' : 'tests'}`;
+  const isEnd = at > 0 && at === list.length - 1;
   const where = at < 0 ? all : isEntry ? `${at + 1} of ${list.length}: ${list[at].name}` : `Not in the list of ${all}`;
   playlist.isEntry = isEntry;
   byId('list-bar').replaceChildren(listButton({ 'data-listed': at - 1 }, '◀ Previous test', at <= 0), html('span', {}, where),
-    listButton({ 'data-listed': at + 1 }, at + 1 < list.length ? `Next test: ${list[at + 1].name} ▶` : 'Next test ▶', at >= list.length - 1));
+    listButton({ 'data-listed': at + 1 }, at + 1 < list.length ? `Next test: ${list[at + 1].name} ▶` : isEnd ? LIST_END : 'Next test ▶', at >= list.length - 1));
 }
 
 function drawList() {

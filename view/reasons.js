@@ -16,15 +16,15 @@ function askedWords({ asked, model }, proposition) {
 /** What an answer comes to, in sentences. */
 function reasonSentence(told, proposition) {
   const asked = askedWords(told, proposition);
-  const ways = { never: () => `There is none: ${told.leaves === 1 ? 'the one case ends' : `each of the ${told.leaves} cases ends`} in a contradiction.`, allowed: () => 'There is one, and it is shown here.' };
-  return `The test asks for ${asked}. ${ways[told.answer]()}${verdictWords(told.verdict)}`;
+  const ways = { never: () => `There is none: ${told.leaves === 1 ? 'the one case ends' : `each of the ${told.leaves} cases ends`} in a contradiction.`, allowed: () => 'One is shown here.' };
+  return `Asked: ${asked}. ${ways[told.answer]()}${verdictWords(told.verdict)}`;
 }
 
 /** Herd's word on the whole condition, where there is one; empty where the test has none. */
 function verdictWords(verdict) {
   if (verdict === null || verdict === undefined) return '';
-  const claim = { exists: 'a run ends', '~exists': 'no run ends', forall: 'each run ends' }[quantifierOf(byId('test').value)] ?? 'a run ends';
-  return ` Verdict ${verdict}: the test claims that ${claim} as its condition says, which is ${verdict === 'Ok' ? 'true' : 'false'}.`;
+  const claim = { '~exists': 'no run ends', forall: 'each run ends' }[quantifierOf(byId('test').value)] ?? 'a run ends';
+  return ` Verdict ${verdict}: the test claims that ${claim} so, which is ${verdict === 'Ok' ? 'true' : 'false'}.`;
 }
 
 const sourceText = source => (source === 'initial' ? 'the initial value' : `what ${source} writes`);
@@ -61,7 +61,7 @@ const STEP_SENTENCES = {
   case: step => (step.answers ? `If ${answersWords(step.answers)}${step.closing ? `: ${lowered(closingSentence(step.closing))}` : ''}` : step.read ? `If ${step.read} reads ${eitherOf(step.from.map(sourceText))}` : `If ${step.first} reaches memory before ${step.second}`),
   so: step => (step.answers ? `So ${answersWords(step.answers)}${step.closing ? `: ${lowered(closingSentence(step.closing))}` : '.'}` : step.read ? `So ${step.read} reads ${eitherOf(step.from.map(sourceText))}.` : `So ${step.first} reaches memory before ${step.second}.`),
   endcases: () => 'No other case is left.',
-  given: ({ facts }) => `What is asked for gives that ${listed(facts.map(factWords))}.`,
+  given: ({ facts }) => `Asked for: ${listed(facts.map(factWords))}.`,
   never: ({ lemma, facts }) => `Lemma ${lemma}: it can't be that ${listed(facts.map(factWords))}.`,
   leaf: ({ closing }) => closingSentence(closing),
   ...CLOSING_SENTENCES,
@@ -127,7 +127,7 @@ const cyclesOf = steps => steps.map((step, at) => ({ cycle: closingOf(step).cycl
 function treeList(nodes, steps, isOpen) {
   return html('ul', { class: 'cases' }, ...nodes.map(({ step, parts }) => {
     if (parts) return html('li', {}, html('details', isOpen ? { open: '' } : {}, html('summary', {}, stepSentence(step)), treeList(parts, steps, isOpen)));
-    const draw = closingOf(step).cycle ? [' ', html('button', { type: 'button', 'data-cycle': steps.indexOf(step), 'aria-pressed': 'false' }, 'Draw it')] : [];
+    const draw = closingOf(step).cycle && cyclesOf(steps).length > 1 ? [' ', html('button', { type: 'button', 'data-cycle': steps.indexOf(step), 'aria-pressed': 'false' }, 'Draw it')] : [];
     return html('li', { class: `step-${step.step}` }, stepSentence(step), ...draw);
   }));
 }

@@ -16,8 +16,8 @@ const SETTINGS = {
 const CHOSEN = ['protocol', 'bus', 'model'];
 /** What each command answers. */
 const ANSWERS_OF = {
-  run: 'What one run does: the one of the choices below.', outcomes: 'All final states, with choices that lead to each.',
-  sweep: 'How often each final state comes, in the runs of many seeds.', counts: 'What the caches did, in the runs of many seeds.',
+  run: 'What one run does: the one of the choices below.', outcomes: 'All outcomes, with choices that lead to each.',
+  sweep: 'How often each outcome comes, in the runs of many seeds.', counts: 'What the caches did, in the runs of many seeds.',
   check: 'Whether an order is one of TSO.', witness: 'Choices that lead to an order.', tables: 'The table of a protocol.',
   why: 'Why the end that is asked for can’t be, or how it can.',
 };
@@ -89,7 +89,7 @@ function putCommand(name) {
 /** The one line that stands for the test while it is folded: its name, the command where it isn't run, and the machine. */
 function showTestLine(command) {
   const { options = Tso.DEFAULTS } = readSettings(command);
-  const on = !SETTINGS[command].includes('bus') ? '' : showsCaches([options]) ? machineName(options) : plainMachineName(options);
+  const on = !SETTINGS[command].includes('bus') ? '' : showsCaches([options]) ? machineTitle(options) : plainMachineName(options);
   putText(byId('test-line'), `${testName()}: ${[command === 'run' ? '' : command, on].filter(Boolean).join(', ')}`);
 }
 

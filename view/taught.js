@@ -29,7 +29,7 @@ function readLessonStep(step, where) {
     needTaught(/^[0-7][sd]$/.test(word) && isText(then), `${where} has to "do" one choice, as 0s, and tell what came of it ("then")`);
     return { do: word, say, then, ...also };
   }
-  needTaught(shows === undefined || Object.hasOwn(LESSON_SHOWS, shows), `${where} can "show" outcomes, why or abreast`);
+  needTaught(shows === undefined || Object.hasOwn(LESSON_SHOWS, shows), `${where} can "show" ${eitherOf(Object.keys(LESSON_SHOWS))}`);
   return { say, ...(shows === undefined ? {} : { show: shows }), ...also };
 }
 

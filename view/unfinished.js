@@ -11,7 +11,7 @@ function waysOn(command, { isStopped = false, met = 0 } = {}) {
   const again = html('li', {}, button({ 'data-ask': command }, 'Begin again'), ' It starts from nothing, with the same limit.');
   const allow = button({ 'data-more': `${name} ${next}` }, `Allow ${next.toLocaleString('en')} ${name}`);
   const higher = next > valueOf(name) ? [html('li', {}, allow, ' It takes longer, and more memory.')] : [];
-  const many = met === 1 ? 'One final state' : `${met} final states`;
+  const many = met === 1 ? 'One outcome' : `${met} outcomes`;
   const shown = html('li', {}, button({ 'data-met': '' }, 'Show what was met'), ` ${many}; there may be others.`);
   const other = command === 'outcomes'
     ? [html('li', {}, button({ 'data-ask': 'why' }, 'Ask why'), ' It looks at the one end that the condition asks for, and needs no states.')]
@@ -21,7 +21,7 @@ function waysOn(command, { isStopped = false, met = 0 } = {}) {
 }
 
 const UNFINISHED = {
-  outcomes: count => `The search isn't finished: it kept ${count} states, its limit. So it doesn't know all final states.`,
+  outcomes: count => `The search isn't finished: it kept ${count} states, its limit. So it doesn't know all outcomes.`,
   why: count => `This isn't decided: more than ${count} cases would have to be told apart, the limit. So there is no proof, and no run.`,
 };
 

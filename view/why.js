@@ -97,13 +97,9 @@ function allowedParts(told, programs, proposition) {
     html('div', { class: 'beside' }, ...figure, html('div', { class: 'told-edges' }, ...executionTables(told), relations))];
 }
 
-const LONG_CHOICES = 80; // letters, from which on choices are folded
-
 /** The choices of a run that was found, folded where they are many. */
 function choicesPart(choices) {
-  const code = html('code', {}, choices === '' ? '(none)' : choices);
-  if (choices.length < LONG_CHOICES) return [html('span', {}, 'by the choices ', code)];
-  return [html('details', { class: 'small' }, html('summary', {}, `by ${countChoices(choices)} choices`), code)];
+  return choices.length < LONG_CHOICES ? [html('span', {}, 'by the choices ', html('code', {}, ...foldedChoices(choices)))] : foldedChoices(choices, 'by ');
 }
 
 /** The loads that passed earlier stores in the run of these choices. */
@@ -112,8 +108,8 @@ function passesPart(choices, model) {
   const order = status === Tso.STATUS.good ? tellEntries(readLine(text.trim())).order : [];
   const passes = order.filter(entry => entry.passed.length > 0).flatMap(passSentences);
   if (passes.length === 0 || passes.length > MOST_PASSES) return [];
-  const title = passes.length === 1 ? 'A load passes a store: ' : 'Loads pass stores: ';
-  return [html('p', {}, html('strong', {}, title), passes.join(' '), ' This is the one order of a program that TSO doesn’t keep.')];
+  const title = passes.length === 1 ? 'A load passes a store' : 'Loads pass stores';
+  return [html('p', {}, html('strong', {}, `${title} in this run: `), passes.join(' '), ' This is the one order of a program that TSO doesn’t keep. In another run that ends so, other loads may pass.')];
 }
 
 /** Draws the cycle of a step of the tree. */

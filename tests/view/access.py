@@ -47,7 +47,7 @@ def focus_row(bench):
     bench.open_fresh(width=1280)
     bench.window.resize(1280, 720)
     faults = []
-    for asked, title in (("#find-outcomes", "All final states"), ("#ask-why", "How it can be")):
+    for asked, title in (("#find-outcomes", "All outcomes"), ("#ask-why", "How it can be")):
         press(bench, asked)
         bench.wait("!bench.task && document.querySelector('.answer-title')")
         told = bench.value("(found => [found.textContent, document.getElementById(found.getAttribute('aria-describedby'))?.textContent.length > 20])(document.activeElement)")

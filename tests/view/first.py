@@ -64,7 +64,7 @@ def folds_row(bench):
     """The test is folded to one line, and opens where it is refused."""
     bench.open()
     faults = differs("open", bench.value("byId('test-part').open"), False)
-    faults += differs("its line", bench.text("#test-line"), "SB: MSI, atomic bus, depth 4")
+    faults += differs("its line", bench.text("#test-line"), "SB: MSI, atomic bus, store buffers of 4 stores")
     bench.fill("choices", "0s 9s")
     return faults + differs("open where a choice is refused", bench.value("byId('test-part').open"), True) + safety(bench)
 

@@ -180,7 +180,7 @@ def faults_of_met(bench, found):
     bench.value("showMet({ status: 3, text: %s, hint: '' }, 32)" % json.dumps(json.dumps(told)))
     said = bench.text("#states p")
     faults = differs("rows of the table of some states", bench.value("document.querySelectorAll('#states tbody tr').length"), 2)
-    return faults + differs("some states", [said.startswith("The search kept 3 states"), "2 of the final states were met" in said, "Ok" in said], [True] * 3)
+    return faults + differs("some states", [said.startswith("The search kept 3 states"), "2 of the outcomes were met" in said, "Ok" in said], [True] * 3)
 
 
 def verdict_row(bench):

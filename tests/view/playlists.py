@@ -81,7 +81,7 @@ def clicker_row(bench):
     faults += differs("after a cycle", bench.value("[playlist.at, drive.isOn, testName()]"), [3, True, "SB"])
     bench.value("taught.list.pop(); openListed(0)")
     bench.value(CLICKED % "PageDown")
-    said = ("No choices yet, so PageDown has nothing to step: press a step or a drain of a core, or begin a lesson. "
+    said = ("No choices yet, so PageDown has nothing to step: press a step or a drain of a core. "
             "Once more for the next test: MP: run, 19 choices.")
     faults += differs("said", bench.text("#sentence"), said)
     bench.value(CLICKED % "PageDown")
@@ -159,6 +159,30 @@ def both_ways_row(bench):
     return faults + safety(bench)
 
 
+def in_run_row(bench):
+    """A clicker goes on with a run in whose middle something was asked or another choice was made; at the list's end it is said to be there."""
+    bench.open_fresh()
+    bench.value("loadText('MP.litmus'); addToList(); loadText('store-buffering-fenced.litmus'); addToList(); putLecture(true); openListed(1); goTo(2)")
+    known, after = bench.value("drive.words"), []
+    for asks, ready in (("findOutcomes()", ".states-sheet"), ("askWhy()", ".cycle")):
+        bench.value(asks)
+        bench.wait("!bench.task && document.querySelector('%s')" % ready)
+        bench.value("sheet.cycle?.move('all'); scrollTo(0, 100000)")
+        bench.value(CLICKED % "PageDown")
+        after.append(bench.value("[playlist.at, drive.isOn, drive.count]"))
+    faults = differs("after a sheet", after, [[1, True, 2]] * 2)
+    bench.value("makeChoice('0s', true)")
+    bench.value(CLICKED % "PageDown")
+    faults += [] if bench.text("#sentence").endswith("Once more for what was to come.") else ["it says " + bench.text("#sentence")]
+    bench.value(CLICKED % "PageDown")
+    faults += differs("taken again", bench.value("[drive.words, drive.count]"), [known, 2])
+    bench.value("goTo(drive.words.length)")
+    ends = bench.value("[byId('sentence').textContent.endsWith(' The end of the list.'), byId('list-bar').lastElementChild.textContent]")
+    faults += differs("the end", ends, [True, "The end of the list"])
+    bench.value("putLecture(false)")
+    return faults + safety(bench)
+
+
 def renamed_row(bench):
     """An entry of a list gets a name of one's own, which stays; what isn't in the list is said to be none of it."""
     bench.open_fresh()
@@ -182,5 +206,6 @@ def rows(page, folder):
         ("a clicker with nothing known", lambda: clicker_row(bench)),
         ("a list that is kept", lambda: kept_list_row(bench)),
         ("a clicker that goes back through a list", lambda: both_ways_row(bench)),
+        ("a clicker in the middle of a run", lambda: in_run_row(bench)),
         ("a name in a list", lambda: renamed_row(bench)),
     ]

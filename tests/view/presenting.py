@@ -110,8 +110,8 @@ def exercise_row(bench, folder):
     bench.window.open("file://" + path)
     bench.value(READY)
     bench.wait("drive.isOn")
-    opened = bench.value("[testName(), drive.words, taught.list.length, byId('task').matches('.met')]")
-    faults = differs("its name", name, "SBF-exercise.html") + differs("opened", opened, ["SBF", [], 0, False])
+    opened = bench.value("[testName(), drive.words, taught.list.length, byId('task').matches('.met'), byId('about').open]")
+    faults = differs("its name", name, "SBF-exercise.html") + differs("opened", opened, ["SBF", [], 0, False, True])
     bench.window.requests.clear()
     return faults + safety(bench)
 
@@ -173,6 +173,7 @@ def abreast_row(bench, folder):
     faults += differs("in one row", tops, 1)
     marks = bench.value("[...document.querySelectorAll('.machine')].map(each => [each.querySelectorAll('.cache .differs').length, each.querySelector('.memory').matches('.differs')])")
     faults += differs("marked", marks, [[0, False], [0, False], [1, True], [1, True]])
+    faults += [] if "Done. Under MSI: 4 misses, " in bench.text("#task-after") else ["the task says " + bench.text("#task-after")]
     bench.window.screenshot(os.path.join(folder, "abreast.png"))
     return faults + bench.value(OVERHANGING) + safety(bench)
 
@@ -189,7 +190,7 @@ def table_row(bench):
         bench.value("(field => { field.value = %s; field.dispatchEvent(new Event('input', { bubbles: true })); })(document.querySelector('.filter'))" % json.dumps(text))
         return bench.value(ROWS)
     faults = differs("0:EAX=1", filtered("0:EAX=1"), ["1 0", "1 1"]) + differs("two words", filtered("0:EAX=1 1:EAX=0"), ["1 0"]) + differs("a word", filtered("true"), ["0 0"])
-    faults += differs("said", bench.text(".filtered"), "1 of 4 states")
+    faults += differs("said", bench.text(".filtered"), "1 of 4 outcomes")
     filtered("")
     press(bench, "#states .alone")
     faults += differs("TSO alone", bench.value(ROWS), ["0 0"])
@@ -199,6 +200,40 @@ def table_row(bench):
     press(bench, "#states th:nth-child(2) .sorts")
     faults += differs("sorted", [once, bench.value(ROWS)], [["0 0", "1 0", "0 1", "1 1"], ["0 1", "1 1", "0 0", "1 0"]])
     return faults + differs("told", bench.value("document.querySelector('#states th:nth-child(2)').getAttribute('aria-sort')"), "descending") + safety(bench)
+
+
+MANY_ENDS = "X86 many\n{ }\n" + "".join(" %s ;\n" % " | ".join(row) for row in (
+    ("P0", "P1", "P2"), ("MOV [x],$1", "MOV [y],$1", "MOV [z],$1"), ("MOV EAX,[y]", "MOV EAX,[z]", "MOV EAX,[x]"), ("MOV EBX,[z]", "MOV EBX,[x]", "MOV EBX,[y]"))
+) + "exists (%s)\n" % " /\\ ".join("%d:%s=%d" % (core, register, word) for core, word in ((0, 0), (1, 0), (2, 2)) for register in ("EAX", "EBX"))
+
+
+def long_table_row(bench):
+    """Of many outcomes the first are shown, and all by a button; long choices are folded; a filter reads a condition, and what never comes goes by it too."""
+    bench.open_fresh()
+    bench.fill("test", MANY_ENDS)
+    bench.value("findOutcomes()")
+    bench.wait("!bench.task && document.querySelector('.states-sheet')")
+    shown = "[document.querySelectorAll('#states tbody tr:not([hidden])').length, document.querySelectorAll('#states tfoot tr:not([hidden])').length]"
+    faults = differs("at first", bench.value("[...%s, document.querySelector('.filtered').textContent]" % shown), [50, 1, "63 of 63 outcomes, the first 50 shown"])
+    put = "(field => { field.value = %s; field.dispatchEvent(new Event('input', { bubbles: true })); })(document.querySelector('.filter'))"
+    for text in ("2:EAX=1 2:EBX=1", "(2:EAX=1 /\\ 2:EBX=1)"):
+        bench.value(put % json.dumps(text))
+        faults += differs(text, bench.value(shown), [16, 0])
+    bench.value(put % "''")
+    press(bench, ".more-rows")
+    faults += differs("all", bench.value(shown), [63, 1])
+    long = "outcomesTable({ states: [{ values: { x: 1 }, choices: '0s '.repeat(30).trim() }], depth: 32 }, null, null).querySelector('.way details').textContent"
+    return faults + differs("folded", bench.value(long), "30 choices" + " ".join(["0s"] * 30)) + safety(bench)
+
+
+def many_passes_row(bench):
+    """A task that is met names some of many loads that passed stores, and how many more there are."""
+    bench.open_fresh()
+    bench.fill("test", MANY_ENDS.replace("2:EAX=2", "2:EAX=0").replace("2:EBX=2", "2:EBX=0"))
+    for choice in "0s 1s 2s 0s 1s 2s 0s 1s 2s".split():
+        bench.key_choice(choice)
+    said = bench.text("#task-after")
+    return ([] if said.startswith(" Done. ") and said.count(" passed ") == 4 and said.endswith(" And 2 more.") else ["it says " + said]) + safety(bench)
 
 
 def forms_row(bench):
@@ -276,6 +311,8 @@ def rows(page, folder):
         ("back to an answer's run", lambda: back_to_answer_row(bench)),
         ("four protocols abreast", lambda: abreast_row(bench, folder)),
         ("a table of states", lambda: table_row(bench)),
+        ("a table of many states", lambda: long_table_row(bench)),
+        ("a task with many passes", lambda: many_passes_row(bench)),
         ("forms of an answer", lambda: forms_row(bench)),
         ("a link of a file", lambda: link_row(bench)),
         ("answers of a later module", lambda: later_row(bench)),

@@ -145,10 +145,12 @@ def never_row(bench, folder, name, model):
     faults = faults_of_tree(bench.value(TREE), wanted_tree(list(told["steps"])), name)
     said = bench.text(".reason > p")
     faults += [] if "There is none" in said and ("Verdict %s: " % told["verdict"] in said) else ["it says " + said]
-    for at, step in enumerate(map(closing_of, told["steps"])):
-        if "cycle" in step:
-            bench.value("document.querySelector('[data-cycle=\"%d\"]').click()" % at)
-            faults += faults_of_cycle(bench, step["cycle"])
+    cycles = [(at, step["cycle"]) for at, step in enumerate(map(closing_of, told["steps"])) if "cycle" in step]
+    buttons = [str(at) for at, _ in cycles] if len(cycles) > 1 else []
+    faults += differs("buttons that draw, where there is more than one cycle", bench.value("[...document.querySelectorAll('[data-cycle]')].map(each => each.dataset.cycle)"), buttons)
+    for at, cycle in cycles:
+        bench.value("document.querySelector('[data-cycle=\"%d\"]')?.click()" % at)
+        faults += faults_of_cycle(bench, cycle)
     bench.window.screenshot(os.path.join(folder, "why-%s-%s.png" % (name, model)))
     return faults + bench.value(OVERHANGING) + safety(bench)
 

@@ -45,8 +45,11 @@ def met_before_row(bench):
         return faults
     press(bench, "#stopped [data-met]")
     shown = bench.value("[document.querySelectorAll('#states tbody tr').length, document.querySelector('.answer-title').textContent, byId('stopped').hidden]")
-    faults += differs("what never is isn't known", bench.value("document.querySelectorAll('#states tr.never').length"), 0)
-    return faults + differs("shown", shown, [met, "Some final states", True])
+    faults += differs("what never is isn't known", bench.value("/never/i.test(byId('states').textContent)"), False)
+    limit = bench.value("JSON.parse(working.progress.answer.text).unfinished.states")
+    bench.value("byId('report-part').open = true; byId('as-printed').click()")
+    bench.wait("byId('report').textContent.startsWith('Unfinished states %d')" % limit)
+    return faults + differs("shown", shown, [met, "Some outcomes", True])
 
 
 def noted_row(bench):
@@ -99,7 +102,7 @@ def brief_row(bench):
     bench.wait("!bench.task && document.querySelector('.reason')")
     faults += differs("said", bench.text("#brief-said"), "Yes: a run ends with 0 in P0's EAX and 0 in P1's EAX.")
     faults += differs("in sight", [is_in_sight(bench, "#brief"), is_in_sight(bench, "#test")], [True, True])
-    passed = r"(A load passes a store|Loads pass stores): P\d read \w before memory saw its store to \w \(P\d:1 passed P\d:0\)\."
+    passed = r"(A load passes a store|Loads pass stores) in this run: P\d read \w before memory saw its store to \w \(P\d:1 passed P\d:0\)\."
     faults += [] if re.search(passed, bench.text(".reason")) else ["it doesn't say what makes it possible: " + bench.text(".reason")]
     press(bench, "#to-answer")
     faults += differs("at the answer", [bench.value("document.activeElement.matches('.answer-title')"), is_in_sight(bench, ".answer-title")], [True, True])
@@ -108,7 +111,27 @@ def brief_row(bench):
     bench.wait("!bench.task && byId('brief-said').textContent.startsWith('No: no run')")
     faults += differs("of another test, by itself", bench.text(".answer-title"), "Why it can't be")
     bench.fill("test", test_of("MP") + "x")
-    return faults + differs("of one that is refused", bench.value("byId('brief').hidden"), True) + safety(bench)
+    faults += differs("of one that is refused", bench.value("byId('brief').hidden"), True)
+    bench.value("bench.took = 0; true")
+    bench.fill("test", test_of("MP"))
+    bench.value("findOutcomes()")
+    bench.wait("!bench.task && document.querySelector('.states-sheet')")
+    bench.choose("why")
+    bench.wait("!bench.task && document.querySelector('.cycle')") # by itself, after the outcomes too
+    return faults + safety(bench)
+
+
+def refused_row(bench):
+    """Where what is asked for is refused, the line stays in sight, and the caret is there."""
+    bench.open_fresh(width=1280)
+    bench.window.resize(1280, 800)
+    bench.fill("test", STORES_AND_LOADS.replace("| MOV EAX,[x] ;", ";"))
+    bench.value("putCommand('why'); answerNow(); scrollTo(0, 0)")
+    press(bench, "#begin")
+    bench.wait("!bench.task && document.activeElement.id === 'test'")
+    faults = differs("in sight", [is_in_sight(bench, each) for each in ("#test-band", "#plain")], [True, True])
+    caret = bench.value("byId('test').value.slice(0, byId('test').selectionStart).split('\\n').length")
+    return faults + differs("the caret's line", caret, 5) + safety(bench)
 
 
 def deeper_run_row(bench):
@@ -158,6 +181,10 @@ def unfinished_row(bench):
     press(bench, "[data-more]")
     bench.wait("!bench.task")
     faults += differs("allowed", bench.value("[settingOf('states').value, bench.task]"), ["30", None])
+    bench.fill("test", test_of("SB+mfences"))
+    bench.value("settingOf('states').value = 40; findOutcomes()")
+    bench.wait("!bench.task && document.querySelector('.states-sheet')")
+    faults += differs("at its limit nothing is said of never", bench.value("/never/i.test(byId('states').textContent)"), False)
     bench.open_fresh()
     bench.fill("test", read(EXAMPLES, "algorithms", "SEQLOCK.litmus"))
     bench.value("settingOf('cases').value = 1; askWhy()")
@@ -304,6 +331,7 @@ def rows(page, folder):
         ("a search that was stopped, in sight", lambda: stopped_row(bench)),
         ("registers that nothing writes", lambda: noted_row(bench)),
         ("an answer in brief beside the test", lambda: brief_row(bench)),
+        ("a refusal of what is asked", lambda: refused_row(bench)),
         ("a deeper run of an answer", lambda: deeper_run_row(bench)),
         ("what was undone", lambda: said_undo_row(bench)),
         ("a search by steps", lambda: climbed_row(bench)),
