@@ -202,7 +202,7 @@ function saidInBrief() {
   return !byId('brief').hidden;
 }
 
-const HIGH = 0.25; // of the window's height: an answer that begins there is in sight at the page's start
+const HIGH = 0.25; // of the window's height: what begins there needs no scrolling
 
 /** Puts the focus on the answer that was asked for, and brings it into sight. */
 function focusAnswer() {

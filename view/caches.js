@@ -36,7 +36,7 @@ function wantCaches(isWanted) {
 /** Where a step read its word, as a machine without caches has it: in a store buffer, or in memory. */
 const plainSupply = supply => (supply === null || supply.from === 'buffer' ? supply : { ...supply, from: 'memory', owner: null });
 
-/** A machine in words, for readers: the short ones of `machineName` stand in addresses. */
+/** A machine in words for readers; `machineName` is for addresses. */
 const machineTitle = options => `${options.protocol.toUpperCase()}, ${options.bus} bus, ${plainMachineName(options)}`;
 
 /** A machine in words that speak of store buffers alone. */

@@ -153,12 +153,11 @@ function plainRefusal(place, cell, line) {
 
 /** Puts the caret at the line that is marked, and brings it into sight. */
 function focusRefusal() {
-  const id = ['test', 'given'].find(each => !byId(each + '-band').hidden), field = byId(id ?? 'test'), line = Number(byId(field.id + '-band').dataset.line);
-  const at = field.value.split('\n').slice(0, Math.max(0, line - 1)).join('\n').length;
-  field.setSelectionRange(at + (line > 1), at + (line > 1));
+  const field = byId(byId('given-band').hidden ? 'test' : 'given'), band = byId(field.id + '-band'), { line } = band.dataset;
+  const at = field.value.split('\n', line - 1).join('\n').length + (line > 1);
+  field.setSelectionRange(at, at);
   field.focus({ preventScroll: true });
-  byId('told').scrollIntoView({ block: 'nearest' });
-  byId(field.id + '-band').scrollIntoView({ block: 'nearest' });
+  for (const part of [byId('told'), band]) part.scrollIntoView({ block: 'nearest' });
 }
 
 /** Marks what is refused, or nothing, and says it in plain words. */

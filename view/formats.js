@@ -20,13 +20,13 @@ function putFormats(known) {
   showWordsLine(currentCommand());
 }
 
-/** The limit of states up to which a search that didn't end is known: where somebody stopped it, less than is set. */
+/** Up to how many states a search is known that didn't end: where somebody stopped it, less than its limit. */
 const limitMet = () => JSON.parse(formats.texts.json ?? '{}').unfinished?.states;
 
 /** Asks for a form that isn't known: of a run at once, of a search in a worker. */
 async function askFormat(name) {
-  const command = currentCommand(), { options } = readSettings(command), input = inputOf(command), states = limitMet() ?? options.states;
-  const question = { ...options, ...(states === undefined ? {} : { states }), json: name === 'json' };
+  const command = currentCommand(), { options } = readSettings(command), input = inputOf(command);
+  const question = { ...options, states: limitMet() ?? options.states ?? Tso.DEFAULTS.states, json: name === 'json' };
   if (command === 'run') return asked(question, drive.isOn ? driveInput() : input).text;
   const task = formats.task = beginTask(bench.bytes, [question], input), [{ text }] = await task.answers;
   return text;

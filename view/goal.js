@@ -104,8 +104,8 @@ function afterTry(history, count, met, quantifier) {
   if (!met) return ` ${missedSentence(history, count, quantifier)} Go back, or make other choices.`;
   const claim = quantifier === 'exists' ? '' : ' So the claim of the test is wrong.';
   const passes = passesOf(history.order.slice(0, history.momentAfter(count).rows), '').filter(sentence => sentence !== '');
-  const more = passes.length > MOST_PASSES ? ` And ${passes.length - MOST_PASSES} more.` : '';
-  return ` ${doneWord(history, count)}${claim} ${passes.slice(0, MOST_PASSES).join(' ')}${more}`.trimEnd();
+  const more = passes.splice(MOST_PASSES).length, rest = more > 0 ? ` And ${more} more.` : '';
+  return ` ${doneWord(history, count)}${claim} ${passes.join(' ')}${rest}`.trimEnd();
 }
 
 /** Shows the task, and when it is met why, by what the loads passed. `run` is the run, where it has ended. After a try that missed what

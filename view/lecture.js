@@ -51,7 +51,7 @@ function clickLesson(isOn) {
 }
 
 const SCROLLED = 0.8; // of the window's height, where a clicker has nothing to step
-const BELOW = 16; // pixels below a sheet, which needn't be scrolled to
+const BELOW = 16; // pixels below a sheet that needn't be in sight
 
 const listedNext = () => taught.list[playlist.at + 1];
 
@@ -61,7 +61,7 @@ const clickBefore = () => (isOfEntry() ? openListed(playlist.at - 1, true) : bac
 /** Whether what is shown was asked for in the middle of a run. */
 const isInRun = () => !isOfEntry() && ownRun.kept !== null && ownRun.kept.count < countChoices(ownRun.kept.choices);
 
-/** Whether something comes after the end of a sheet: the rest of the run in which it was asked for, or the next test of the list. */
+/** What comes after a sheet: the rest of its run, or the next test of the list. */
 const hasAfter = () => isInRun() || listedNext() !== undefined;
 const clickAfter = () => (isInRun() ? backToRun() : openListed(playlist.at + 1));
 

@@ -5,7 +5,7 @@
 const IN_LESSON = Object.freeze({ told: null, at: 0, isDone: false, answer: null, refused: '' });
 
 /** The lesson that runs (`told`, null while none does), the number of its step, whether what the step wants is done, what was answered, and what
- * is said of a press that the step doesn't want (`refused`). */
+ * is said of a wrong press (`refused`). */
 let lesson = IN_LESSON;
 
 const putLesson = changes => { lesson = Object.freeze({ ...lesson, ...changes }); };
@@ -32,14 +32,8 @@ const LESSON_SHOWS = {
   outcomes: { says: 'Find all outcomes', act: () => findOutcomes() },
   why: { says: 'Why can or can’t it be?', act: () => askWhy() },
   abreast: { says: 'All four protocols', act: () => putBeside(JSON.stringify(ABREAST)) },
-  apart: { says: 'One word in a line', act: () => putApart() },
+  apart: { says: 'One word in a line', act: () => { settingOf('words').value = 1; keepPosition(answerNow); } },
 };
-
-/** Puts each location into a line of its own. */
-function putApart() {
-  settingOf('words').value = 1;
-  keepPosition(answerNow);
-}
 
 /** Begins a lesson at a step. */
 function beginLesson(name, at = 0) {

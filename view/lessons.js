@@ -16,8 +16,8 @@ const LESSONS = [
       {
         do: '0s',
         say: 'Let P0 take its first step. Press the button 0s, “step MOV [x],$1”.',
-        then: 'The store x=1 waits in P0’s store buffer. Memory has not seen it: x is still 0 there. In the picture it is the bar, and the 0 over it is the ' +
-          'number of its instruction.',
+        then: 'The store x=1 waits in P0’s store buffer. Memory has not seen it: x is still 0 there. In the picture it is the bar; 0 is its place in ' +
+          'the program.',
       },
       { do: '1s', say: 'Now P1’s first step: 1s.', then: 'The store y=1 waits in P1’s buffer. Memory still has 0 for both.' },
       {

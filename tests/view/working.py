@@ -170,6 +170,9 @@ def climbed_row(bench):
     return faults + safety(bench)
 
 
+ROWS_MET = "[...document.querySelectorAll('.states-sheet tbody .number')].map(each => each.textContent)"
+
+
 def unfinished_row(bench):
     """An answer that isn't finished is told in words, with what one can do, and more is allowed by one press."""
     bench.open_fresh()
@@ -182,9 +185,12 @@ def unfinished_row(bench):
     bench.wait("!bench.task")
     faults += differs("allowed", bench.value("[settingOf('states').value, bench.task]"), ["30", None])
     bench.fill("test", test_of("SB+mfences"))
-    bench.value("settingOf('states').value = 40; findOutcomes()")
-    bench.wait("!bench.task && document.querySelector('.states-sheet')")
-    faults += differs("at its limit nothing is said of never", bench.value("/never/i.test(byId('states').textContent)"), False)
+    bench.value("settingOf('states').value = 5; findOutcomes()")
+    bench.wait("!bench.task && document.querySelector('.ways-on')")
+    met = {"unfinished": {"states": 5}, "met": [{"choices": "0s", "holds": False, "values": {"0:EAX": 0, "1:EAX": 1}}]}
+    for act in ("", "showMet({ status: Tso.STATUS.unended, text: %s, hint: '' }, 32); " % json.dumps(json.dumps(met))):
+        faults += differs("at its limit nothing is said of never", bench.value(act + "/never/i.test(byId('states').textContent)"), False)
+    faults += differs("what was met", bench.value(ROWS_MET), ["0", "1"])
     bench.open_fresh()
     bench.fill("test", read(EXAMPLES, "algorithms", "SEQLOCK.litmus"))
     bench.value("settingOf('cases').value = 1; askWhy()")
