@@ -169,7 +169,8 @@ function judgedAnswer({ right, because }, answer) {
 
 /** Says what a step tells, and when it is done what came of it. */
 function showSentences() {
-  const step = stepNow(), { isDone, answer, refused } = lesson, after = step.ask === undefined ? step.then : answer === null ? undefined : judgedAnswer(step, answer);
+  const step = stepNow(), { isDone, answer, refused } = lesson;
+  const after = step.ask === undefined ? step.then : answer === null ? undefined : judgedAnswer(step, answer);
   putText(byId('lesson-said'), step.ask ?? step.say);
   const said = [isDone ? after : '', refused].filter(Boolean).join(' ');
   byId('lesson-after').hidden = said === '';

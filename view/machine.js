@@ -245,7 +245,8 @@ class MachinePanel {
   /** Shows the machine after so many steps; where caches aren't shown (`isPlain`), as one that has none. */
   show(history, count, isPlain) {
     this.history = history;
-    putText(this.name, isPlain ? `The machine, with ${plainMachineName(history.options)}` : drive.histories.length > 2 ? history.options.protocol.toUpperCase() : machineTitle(history.options));
+    const title = drive.histories.length > 2 ? history.options.protocol.toUpperCase() : machineTitle(history.options);
+    putText(this.name, isPlain ? `The machine, with ${plainMachineName(history.options)}` : title);
     const last = count <= history.steps.length ? history.steps[count - 1] : undefined;
     const now = history.machineAfter(count), before = last ? history.machineAfter(count - 1) : now;
     const changes = last ? stateChanges(last) : [], hasEnded = history.hasEnded(count), told = last ? supplyOf(last) : null, supply = isPlain ? plainSupply(told) : told;

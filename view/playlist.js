@@ -112,11 +112,11 @@ const listButton = (attributes, text, isOff = false) => html('button', { type: '
 function drawBar(isEntry) {
   const { list } = taught, { at } = playlist;
   const all = `${list.length} ${list.length === 1 ? 'test' : 'tests'}`;
-  const isEnd = at > 0 && at === list.length - 1;
+  const next = at + 1 < list.length ? `Next test: ${list[at + 1].name} ▶` : at > 0 ? LIST_END : 'Next test ▶';
   const where = at < 0 ? all : isEntry ? `${at + 1} of ${list.length}: ${list[at].name}` : `Not in the list of ${all}`;
   playlist.isEntry = isEntry;
   byId('list-bar').replaceChildren(listButton({ 'data-listed': at - 1 }, '◀ Previous test', at <= 0), html('span', {}, where),
-    listButton({ 'data-listed': at + 1 }, at + 1 < list.length ? `Next test: ${list[at + 1].name} ▶` : isEnd ? LIST_END : 'Next test ▶', at >= list.length - 1));
+    listButton({ 'data-listed': at + 1 }, next, at >= list.length - 1));
 }
 
 function drawList() {

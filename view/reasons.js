@@ -16,7 +16,8 @@ function askedWords({ asked, model }, proposition) {
 /** What an answer comes to, in sentences. */
 function reasonSentence(told, proposition) {
   const asked = askedWords(told, proposition);
-  const ways = { never: () => `There is none: ${told.leaves === 1 ? 'the one case ends' : `each of the ${told.leaves} cases ends`} in a contradiction.`, allowed: () => 'One is shown here.' };
+  const cases = told.leaves === 1 ? 'the one case ends' : `each of the ${told.leaves} cases ends`;
+  const ways = { never: () => `There is none: ${cases} in a contradiction.`, allowed: () => 'One is shown here.' };
   return `Asked: ${asked}. ${ways[told.answer]()}${verdictWords(told.verdict)}`;
 }
 
@@ -127,7 +128,7 @@ const cyclesOf = steps => steps.map((step, at) => ({ cycle: closingOf(step).cycl
 function treeList(nodes, steps, isOpen) {
   return html('ul', { class: 'cases' }, ...nodes.map(({ step, parts }) => {
     if (parts) return html('li', {}, html('details', isOpen ? { open: '' } : {}, html('summary', {}, stepSentence(step)), treeList(parts, steps, isOpen)));
-    const draw = closingOf(step).cycle && cyclesOf(steps).length > 1 ? [' ', html('button', { type: 'button', 'data-cycle': steps.indexOf(step), 'aria-pressed': 'false' }, 'Draw it')] : [];
+    const draw = closingOf(step).cycle ? [' ', html('button', { type: 'button', 'data-cycle': steps.indexOf(step), 'aria-pressed': 'false' }, 'Draw it')] : [];
     return html('li', { class: `step-${step.step}` }, stepSentence(step), ...draw);
   }));
 }

@@ -18,8 +18,10 @@ const FEW_ROWS = 50; // that a long table shows at first
 
 /** Shows the rows that the sheet's filter finds, of many the first ones, and says how many these are. */
 function filterStates(sheet) {
-  const [filter, alone] = sheet.querySelectorAll('.filter, .alone'), more = sheet.querySelector('.more-rows'), table = sheet.querySelector('table'), rows = [...table.tBodies[0].rows];
-  const titles = [...table.tHead.rows[0].cells].map(cell => cell.textContent), words = filter.value.toLowerCase().replace(/[()[\]]|\/\\/g, ' ').split(/\s+/).filter(word => word !== '');
+  const [filter, alone] = sheet.querySelectorAll('.filter, .alone'), more = sheet.querySelector('.more-rows');
+  const table = sheet.querySelector('table'), rows = [...table.tBodies[0].rows];
+  const titles = [...table.tHead.rows[0].cells].map(cell => cell.textContent);
+  const words = filter.value.toLowerCase().replace(/[()[\]]|\/\\/g, ' ').split(/\s+/).filter(word => word !== '');
   const isFound = row => hasWords(row, titles, words) && !(alone?.checked === true && !row.textContent.includes('TSO alone')), found = rows.filter(isFound);
   const shown = new Set('all' in more.dataset ? found : found.slice(0, FEW_ROWS)), isCut = shown.size < found.length;
   for (const row of rows) row.hidden = !shown.has(row);
@@ -41,7 +43,7 @@ function sortBy(title) {
   for (const other of head.parentElement.cells) other.removeAttribute('aria-sort');
   head.setAttribute('aria-sort', way === 1 ? 'ascending' : 'descending');
   body.append(...[...body.rows].sort((one, other) => way * compareCells(one.cells[head.cellIndex], other.cells[head.cellIndex])));
-  filterStates(head.closest('.states-sheet'));
+  if (body.rows.length > 1) filterStates(head.closest('.states-sheet'));
 }
 
 const MOST_TRIED = 24; // states whose choices are tried in one's own store buffers
@@ -65,7 +67,8 @@ function statesSheet(outcomes, sequential, truths) {
   for (const button of table.querySelectorAll('thead .sorts')) if (Object.hasOwn(MEANINGS, button.textContent)) button.dataset.means = button.textContent;
   const filter = html('input', { class: 'filter', type: 'search', autocomplete: 'off', placeholder: '0:EAX=1' });
   const alone = sequential ? [html('label', {}, html('input', { class: 'alone', type: 'checkbox' }), ' TSO alone')] : [];
-  const tools = html('div', { class: 'buttons small' }, html('label', {}, 'Filter ', filter), ...alone, html('span', { class: 'filtered', role: 'status' })), more = html('button', { type: 'button', class: 'more-rows', hidden: '' });
+  const tools = html('div', { class: 'buttons small' }, html('label', {}, 'Filter ', filter), ...alone, html('span', { class: 'filtered', role: 'status' }));
+  const more = html('button', { type: 'button', class: 'more-rows', hidden: '' });
   const words = sequential ? [html('p', { class: 'small faint' }, '“TSO alone”: it needs store buffers. SC is sequential consistency: no store buffers.')] : [];
   const key = html('p', { class: 'small faint key' }, KEY);
   const sheet = html('div', { class: 'states-sheet' }, ...words, ...(outcomes.states.length > 1 ? [tools] : []), ...depthNote(outcomes), table, more, key);

@@ -51,8 +51,9 @@ function showReason(answer, test) {
     html('p', { role: 'status' }, html('strong', {}, plainAnswer(told, proposition)), html('span', { class: 'fine' }, ` ${reasonSentence(told, proposition)}`)),
     html('p', { class: 'small faint' }, eventsSaid(answer.text)), ...parts);
   byId('states').replaceChildren(section);
-  const [first] = told.answer === 'never' ? cyclesOf(told.steps) : [];
+  const [first, second] = told.answer === 'never' ? cyclesOf(told.steps) : [];
   if (first) drawCycle(first.at);
+  if (!second) section.querySelector('[data-cycle]')?.remove(); // the one that is drawn
   showFromBehind();
   section.append(...countsOffer(), sheetTools(section.querySelector('figure') !== null));
 }
@@ -109,7 +110,8 @@ function passesPart(choices, model) {
   const passes = order.filter(entry => entry.passed.length > 0).flatMap(passSentences);
   if (passes.length === 0 || passes.length > MOST_PASSES) return [];
   const title = passes.length === 1 ? 'A load passes a store' : 'Loads pass stores';
-  return [html('p', {}, html('strong', {}, `${title} in this run: `), passes.join(' '), ' This is the one order of a program that TSO doesn’t keep. In another run that ends so, other loads may pass.')];
+  const after = ' This is the one order of a program that TSO doesn’t keep. In another run that ends so, other loads may pass.';
+  return [html('p', {}, html('strong', {}, `${title} in this run: `), passes.join(' '), after)];
 }
 
 /** Draws the cycle of a step of the tree. */

@@ -77,7 +77,8 @@ def left_out_row(bench):
         bench.value("document.querySelector('.reason %s input[type=checkbox]').click()" % kind)
         faults += differs("all cores of %s" % kind, bench.value(DRAWN), all_cores)
         every = bench.value("document.querySelectorAll('.reason [data-edge]').length")
-        faults += [] if word == 0 or every > edges and bench.text(".drawn-part .buttons").startswith("Drawn are all %d arrows." % every) else ["all arrows are %d" % edges]
+        is_said = word == 0 or bench.text(".drawn-part .buttons").startswith("Drawn are all %d arrows." % every)
+        faults += [] if is_said and (word == 0 or every > edges) else ["all arrows are %d" % edges]
         bench.value("backToRun()")
     return faults + safety(bench)
 

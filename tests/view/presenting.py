@@ -203,7 +203,8 @@ def table_row(bench):
 
 
 MANY_ENDS = "X86 many\n{ }\n" + "".join(" %s ;\n" % " | ".join(row) for row in (
-    ("P0", "P1", "P2"), ("MOV [x],$1", "MOV [y],$1", "MOV [z],$1"), ("MOV EAX,[y]", "MOV EAX,[z]", "MOV EAX,[x]"), ("MOV EBX,[z]", "MOV EBX,[x]", "MOV EBX,[y]"))
+    ("P0", "P1", "P2"), ("MOV [x],$1", "MOV [y],$1", "MOV [z],$1"), ("MOV EAX,[y]", "MOV EAX,[z]", "MOV EAX,[x]"),
+    ("MOV EBX,[z]", "MOV EBX,[x]", "MOV EBX,[y]"))
 ) + "exists (%s)\n" % " /\\ ".join("%d:%s=%d" % (core, register, word) for core, word in ((0, 0), (1, 0), (2, 2)) for register in ("EAX", "EBX"))
 
 
@@ -214,7 +215,8 @@ def long_table_row(bench):
     bench.value("findOutcomes()")
     bench.wait("!bench.task && document.querySelector('.states-sheet')")
     shown = "[document.querySelectorAll('#states tbody tr:not([hidden])').length, document.querySelectorAll('#states tfoot tr:not([hidden])').length]"
-    faults = differs("at first", bench.value("[...%s, document.querySelector('.filtered').textContent]" % shown), [50, 1, "63 of 63 outcomes, the first 50 shown"])
+    faults = differs("at first", bench.value("[...%s, document.querySelector('.filtered').textContent]" % shown),
+                     [50, 1, "63 of 63 outcomes, the first 50 shown"])
     put = "(field => { field.value = %s; field.dispatchEvent(new Event('input', { bubbles: true })); })(document.querySelector('.filter'))"
     for text in ("2:EAX=1 2:EBX=1", "(2:EAX=1 /\\ 2:EBX=1)"):
         bench.value(put % json.dumps(text))
@@ -222,7 +224,8 @@ def long_table_row(bench):
     bench.value(put % "''")
     press(bench, ".more-rows")
     faults += differs("all", bench.value(shown), [63, 1])
-    long = "outcomesTable({ states: [{ values: { x: 1 }, choices: '0s '.repeat(30).trim() }], depth: 32 }, null, null).querySelector('.way details').textContent"
+    long = ("outcomesTable({ states: [{ values: { x: 1 }, choices: '0s '.repeat(30).trim() }], depth: 32 }, null, null)"
+            ".querySelector('.way details').textContent")
     return faults + differs("folded", bench.value(long), "30 choices" + " ".join(["0s"] * 30)) + safety(bench)
 
 

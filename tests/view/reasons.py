@@ -147,7 +147,8 @@ def never_row(bench, folder, name, model):
     faults += [] if "There is none" in said and ("Verdict %s: " % told["verdict"] in said) else ["it says " + said]
     cycles = [(at, step["cycle"]) for at, step in enumerate(map(closing_of, told["steps"])) if "cycle" in step]
     buttons = [str(at) for at, _ in cycles] if len(cycles) > 1 else []
-    faults += differs("buttons that draw, where there is more than one cycle", bench.value("[...document.querySelectorAll('[data-cycle]')].map(each => each.dataset.cycle)"), buttons)
+    there = bench.value("[...document.querySelectorAll('[data-cycle]')].map(each => each.dataset.cycle)")
+    faults += differs("buttons that draw, where there is more than one cycle", there, buttons)
     for at, cycle in cycles:
         bench.value("document.querySelector('[data-cycle=\"%d\"]')?.click()" % at)
         faults += faults_of_cycle(bench, cycle)

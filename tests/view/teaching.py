@@ -151,7 +151,8 @@ def guided_row(bench):
     bench.value("enterStep(2)")
     press(bench, "[data-choice='1s']")
     refused = "The lesson goes on with 0s. Leave the lesson to go your own way."
-    faults += differs("in its box", bench.value("[drive.count, byId('lesson-after').textContent, byId('lesson-after').matches('.wrong'), byId('sentence').textContent]"), [0, refused, True, ""])
+    told = bench.value("(box => [drive.count, box.textContent, box.matches('.wrong'), byId('sentence').textContent])(byId('lesson-after'))")
+    faults += differs("in its box", told, [0, refused, True, ""])
     faults += differs("no room over the machine while nothing is said there", bench.value("byId('stepper').getClientRects().length"), 0)
     faults += [] if bench.text("#lesson-place").endswith(": first press 0s") else ["at Next it says " + bench.text("#lesson-place")]
     press(bench, "[data-choice='0s']")
@@ -298,7 +299,8 @@ def has_larger_set(bench):
 
 
 # Where words share a line, what differs is marked; with a line for each word each protocol has two misses.
-SHARES = "(valueOf('words') === 2 ? document.querySelector('.cache .differs') : [...document.querySelectorAll('.tally')].every(each => each.textContent.startsWith('so far 2 misses'))) !== null"
+SHARES = ("(valueOf('words') === 2 ? document.querySelector('.cache .differs') !== null"
+          " : [...document.querySelectorAll('.tally')].every(each => each.textContent.startsWith('so far 2 misses')))")
 
 
 def rows(page, folder):
