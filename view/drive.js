@@ -98,7 +98,7 @@ function makeChoice(word, mayStall = false) {
 function refuseStall({ histories: [history], count }, word) {
   const step = history.steps[count - 1], why = step ? STALLS[step.stall](coreOfChoice(word), history.machineAfter(count - 1)) : 'The first machine\'s test has ended.';
   putDrive({ core: coreOfChoice(word) });
-  markCore();
+  markKeyed(false);
   for (const panel of drawn.panels) panel.offerStall(word);
   sayOfDriving(`${why} So ${word} does nothing. “stall” makes it all the same.`);
 }
@@ -235,8 +235,7 @@ function driveByKey(key) {
   if (!byId('letter-keys').checked) return false;
   if (/^[0-7]$/.test(key) && Number(key) < firstHistory().cores) {
     putDrive({ core: Number(key) });
-    document.documentElement.classList.add('keyed'); // from now on the core that keys act on is marked
-    markCore();
+    markKeyed(true);
   } else if (Object.hasOwn(DRIVE_KEYS, key)) {
     DRIVE_KEYS[key]();
   } else {

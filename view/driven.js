@@ -6,7 +6,7 @@
 function showDrive() {
   const history = firstHistory(), { count } = drive, isPlain = !putCaches();
   drawn.panels.forEach((panel, at) => panel.show(drive.histories[at], count, isPlain));
-  markCore();
+  markKeyed(false);
   showPicture();
   const step = history.steps[count - 1];
   const before = step && history.machineAfter(count - 1);
@@ -32,8 +32,6 @@ function keepInSight() {
   scrollPicture();
   drawn.passes.keepInSight();
   for (const panel of drawn.panels) panel.keepInSight();
-  const top = isStepperBelow() ? '0px' : `${byId('stepper').offsetHeight}px`; // the lanes' names stand still below it
-  if (byId('names').style.top !== top) byId('names').style.top = top;
 }
 
 /** Whether what one steps by stands at the lower edge of the window, as it does on a narrow one. */
@@ -59,8 +57,9 @@ function showMoves() {
   for (const id of ['play', 'draw-seed']) byId(id).disabled = isAtEnd(drive);
 }
 
-/** Marks the core on which keys act. */
-function markCore() {
+/** Marks the core on which keys act, while a key has named it and the choice is still to come (`isAsked`). */
+function markKeyed(isAsked) {
+  document.documentElement.classList.toggle('keyed', isAsked);
   for (const { panels } of drawn.panels) panels.forEach(({ element }, core) => element.classList.toggle('chosen', core === drive.core));
 }
 

@@ -192,12 +192,14 @@ def folded_row(bench, folder):
 
 
 def marked_core_row(bench):
-    """The core that keys act on is marked once a key has named one, and not before."""
+    """The core that keys act on is marked while a key has named one and its choice is to come."""
     bench.open_fresh()
     style = "getComputedStyle(document.querySelector('.core.chosen')).outlineStyle"
     faults = differs("at first", bench.value(style), "none")
-    bench.key_choice("1s")
-    return faults + differs("after a key", bench.value(style), "dashed") + safety(bench)
+    bench.press("1")
+    faults += differs("after its digit", bench.value(style), "dashed")
+    bench.press("s")
+    return faults + differs("after the choice", bench.value(style), "none") + safety(bench)
 
 
 CODE_SIZES = """[...document.querySelectorAll('.program code, .registers li, .memory li, .core-buttons code')].map(each => parseFloat(getComputedStyle(each).fontSize))"""
