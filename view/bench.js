@@ -71,9 +71,23 @@ let noticed = '';
 
 const NOTICES = '#words-copied, #copied, #report-copied, .page-saved';
 
-/** Says what was saved or copied last, at these places, and takes away what was said before. */
+/** What was pressed last. */
+let pressed = null;
+document.addEventListener('click', ({ target }) => { pressed = target; }, true);
+
+/** Of several places for a notice the one in sight that is nearest to what was pressed. */
+function nearestPlace(places) {
+  for (let part = pressed; part; part = part.parentElement) {
+    const found = [...part.querySelectorAll(places)].find(each => each.checkVisibility());
+    if (found) return found;
+  }
+  return document.querySelector(places);
+}
+
+/** Says what was saved or copied last, at the nearest of these places, and takes away what was said before. */
 function sayDone(places, said) {
-  for (const notice of document.querySelectorAll(NOTICES)) putText(notice, notice.matches(places) ? said : '');
+  const place = said === '' ? null : nearestPlace(places);
+  for (const notice of document.querySelectorAll(NOTICES)) putText(notice, notice === place ? said : '');
 }
 
 /** Takes notices away that belong to another test or command. */
@@ -194,9 +208,13 @@ const answerTitle = text => html('h2', { class: 'answer-title', tabindex: -1 }, 
 /** Whether what works, or has ended, was begun beside the test. */
 const isAskedBeside = () => byId('test-part').open && byId('test-part').contains(working.asker);
 
-/** Of an answer that was asked for beside the test: says the first sentence there, so that the test stays in sight. Answers whether it did. */
+/** Whether what one asks by stands under the test: an answer is far from it then. */
+const isOneColumn = () => document.querySelector('.asking').offsetTop > document.querySelector('.writing').offsetTop;
+
+/** Of an answer that was asked for beside the test, or from it: says the first sentence there, so that the test stays in sight. Answers whether it did. */
 function saidInBrief() {
-  const said = byId('states').querySelector('[role=status] strong')?.textContent ?? '', isBeside = isAskedBeside();
+  const said = byId('states').querySelector('[role=status] strong')?.textContent ?? '';
+  const isBeside = isAskedBeside() && (working.asker === byId('test') || !isOneColumn());
   byId('brief').hidden = !isBeside || said === '';
   putText(byId('brief-said'), byId('brief').hidden ? '' : said);
   return !byId('brief').hidden;
@@ -239,6 +257,7 @@ function backToRun() {
 /** Asks a long command about the test, by one click from its run. */
 function ask(command) {
   keepOwnRun();
+  foldList();
   putCommand(command);
   begin();
 }

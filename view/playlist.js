@@ -97,6 +97,7 @@ function openListed(at, isAtEnd = false) {
   endLesson();
   openTest(taught.list[at].address);
   if (drive.isOn) goTo(isAtEnd ? drive.words.length : 0);
+  foldList();
   drawList();
 }
 
@@ -127,6 +128,7 @@ function drawList() {
   drawBar(isOfEntry());
   byId('list').replaceChildren(...list.map(({ name }, each) => html('li', {}, listButton({ 'data-listed': each, class: 'quiet' }, name),
     ' ', listButton({ 'data-raised': each, class: 'quiet', 'aria-label': `Move ${name} up` }, 'up', each === 0),
+    ' ', listButton({ 'data-raised': each + 1, class: 'quiet', 'aria-label': `Move ${name} down` }, 'down', each === list.length - 1),
     ' ', listButton({ 'data-renamed': each, class: 'quiet', 'aria-label': `Rename ${name}` }, 'rename'),
     ' ', listButton({ 'data-unlisted': each, class: 'quiet', 'aria-label': `Take ${name} off the list` }, 'take off'))));
   followShown();
@@ -145,6 +147,13 @@ function renameListed(at) {
     drawList();
     byId('list').children[at].firstElementChild.focus();
   });
+}
+
+/** Folds the list, so that what is shown next stands where it did; who was in it is at its name then. */
+function foldList() {
+  const part = byId('list-part'), isIn = part.open && part.contains(document.activeElement);
+  part.open = false;
+  if (isIn) part.firstElementChild.focus({ preventScroll: true });
 }
 
 /** Brings the list into sight, open. */

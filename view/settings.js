@@ -81,8 +81,11 @@ function putSettings(pairs) {
   }
 }
 
+/** Chooses a command, and opens the fold that has it. */
 function putCommand(name) {
-  document.querySelector(`#commands input[value=${commandOf(name)}]`).checked = true;
+  const choice = document.querySelector(`#commands input[value=${commandOf(name)}]`);
+  choice.checked = true;
+  if (byId('rarer').contains(choice)) byId('rarer').open = true;
   showSettings(commandOf(name));
 }
 

@@ -25,7 +25,7 @@ apt-get install -y --no-install-recommends chromium poppler-utils
 
 - What teaches: lessons, tasks, terms (teaching.py); the larger set of instructions (larger.py); work that is long, undo, branches and ways
   back (working.py); a lecture, tables and forms (presenting.py); lists of tests (playlists.py); ways of edges that cross nothing, and what
-  moves (drawn_edges.py); what WCAG 2.2 AA asks, as far as a script sees it (access.py).
+  moves (drawn_edges.py); what WCAG 2.2 AA asks, as far as a script sees it (access.py); looks and layout (layout.py).
 - In Firefox, where Debian's firefox-esr is there, some of these rows.
 
 The last line is 'N passed, M failed'.
@@ -53,6 +53,7 @@ import first
 import given_lines
 import kept
 import larger
+import layout
 import machine
 import playlists
 import presenting
@@ -127,7 +128,7 @@ def rows_of_reasons(page, room, folder):
 
 def rows_that_teach(page, folder):
     """The rows of what teaches; they ask for outcomes and for `why`, so they need a module that answers these."""
-    return [row for each in (teaching, larger, working, presenting, playlists, drawn_edges, access) for row in each.rows(page, folder)]
+    return [row for each in (teaching, larger, working, presenting, playlists, drawn_edges, access, layout) for row in each.rows(page, folder)]
 
 
 class Page:
