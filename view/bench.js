@@ -71,22 +71,12 @@ let noticed = '';
 
 const NOTICES = '#words-copied, #copied, #report-copied, .page-saved';
 
-/** What was pressed last. */
-let pressed = null;
-document.addEventListener('click', ({ target }) => { pressed = target; }, true);
-
-/** Of several places for a notice the one in sight that is nearest to what was pressed. */
-function nearestPlace(places) {
-  for (let part = pressed; part; part = part.parentElement) {
-    const found = [...part.querySelectorAll(places)].find(each => each.checkVisibility());
-    if (found) return found;
-  }
-  return document.querySelector(places);
-}
+/** Of some places the one in sight that is nearest to the focus. */
+const nearest = (places, part = document.activeElement) => part && ([...part.querySelectorAll(places)].find(each => each.checkVisibility()) ?? nearest(places, part.parentElement));
 
 /** Says what was saved or copied last, at the nearest of these places, and takes away what was said before. */
 function sayDone(places, said) {
-  const place = said === '' ? null : nearestPlace(places);
+  const place = nearest(places);
   for (const notice of document.querySelectorAll(NOTICES)) putText(notice, notice === place ? said : '');
 }
 
@@ -208,13 +198,10 @@ const answerTitle = text => html('h2', { class: 'answer-title', tabindex: -1 }, 
 /** Whether what works, or has ended, was begun beside the test. */
 const isAskedBeside = () => byId('test-part').open && byId('test-part').contains(working.asker);
 
-/** Whether what one asks by stands under the test: an answer is far from it then. */
-const isOneColumn = () => document.querySelector('.asking').offsetTop > document.querySelector('.writing').offsetTop;
-
-/** Of an answer that was asked for beside the test, or from it: says the first sentence there, so that the test stays in sight. Answers whether it did. */
+/** Of an answer that was asked for from the test, or beside it: says the first sentence there, so that the test stays in sight. Answers whether it did. */
 function saidInBrief() {
   const said = byId('states').querySelector('[role=status] strong')?.textContent ?? '';
-  const isBeside = isAskedBeside() && (working.asker === byId('test') || !isOneColumn());
+  const isBeside = isAskedBeside() && (working.asker === byId('test') || byId('library').offsetTop < byId('told').offsetTop);
   byId('brief').hidden = !isBeside || said === '';
   putText(byId('brief-said'), byId('brief').hidden ? '' : said);
   return !byId('brief').hidden;

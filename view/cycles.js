@@ -2,9 +2,8 @@
 
 // Events and edges drawn over the programs: a cycle, edge by edge, or an execution. All measures are pixels.
 
-const EVENTS = { least: 120, side: 44, code: 20, line: 15, box: 26, gap: 6, head: 30, thin: 26, letter: 8, place: 4, smaller: 0.7 };
-// Where the lanes of many cores don't fit the window: an instruction has two lines there, and less stands beside the boxes.
-const NARROW = { least: 116, side: 26, letters: 14, smaller: 0.92 };
+const EVENTS = { least: 120, side: 44, code: 20, line: 15, box: 26, gap: 6, head: 30, thin: 6, letter: 8, place: 4, smaller: 0.7 };
+const NARROW = { least: 116, side: 26, letters: 14, smaller: 0.92 }; // where the lanes of many cores don't fit the window
 
 /** The events that edges name, each once. */
 const eventsOf = edges => [...new Map(edges.flatMap(({ from, to }) => [from, to]).map(text => [nameOfEvent(text), eventOf(text)])).values()];
@@ -16,26 +15,26 @@ const nameOfEvent = text => text.split(' ').slice(0, 2).join(' ');
 function topsOfRows(rows, boxesOf, channels, codes) {
   const tops = [EVENTS.head];
   for (let row = 0; row < rows; row++) {
-    const boxes = boxesOf(row), under = channels[row] * ROUTES.channel, more = codes[row] - EVENTS.code;
-    tops.push(tops[row] + (boxes === 0 ? EVENTS.thin + more : codes[row] + boxes * (EVENTS.box + EVENTS.gap) + 12 + under));
+    const boxes = boxesOf(row), under = channels[row] * ROUTES.channel;
+    tops.push(tops[row] + codes[row] + (boxes === 0 ? EVENTS.thin : boxes * (EVENTS.box + EVENTS.gap) + 12 + under));
   }
   return tops;
 }
 
-/** The lines of an instruction with its place: in a narrow lane what it acts on stands under its name, if it is long. */
+/** An instruction's lines: two in a narrow lane, if it is long. */
 function linesOfCode(text, place, isNarrow) {
-  const whole = `${place}  ${text}`, at = text.lastIndexOf(' ');
-  return isNarrow && whole.length > NARROW.letters && at > 0 ? [`${place}  ${text.slice(0, at)}`, text.slice(at + 1)] : [whole];
+  const whole = `${place}  ${text}`;
+  return isNarrow && whole.length > NARROW.letters ? whole.split(/ (?=\S+$)/) : [whole];
 }
 
-/** How high the instructions of each row are. */
-const codesOf = (programs, rows, isNarrow) => Array.from({ length: rows }, (_, row) => EVENTS.code
-  + (programs.some(program => row < program.length && linesOfCode(program[row], row, isNarrow).length > 1) ? EVENTS.line : 0));
+/** The heights of the rows' instructions. */
+const codesOf = (programs, rows, isNarrow) => Array.from({ length: rows }, (_, row) =>
+  EVENTS.code + EVENTS.line * (Math.max(...programs.map(program => linesOfCode(program[row] ?? '', row, isNarrow).length)) - 1));
 
 /** The room beside the boxes of a lane: the letters of the longest name of a relation have to go there. */
 function sideFor(edges, isNarrow) {
   const longest = Math.max(0, ...edges.map(({ relation }) => relation.length));
-  return Math.max(isNarrow ? NARROW.side : EVENTS.side, longest * ROUTES.letter + (isNarrow ? ROUTES.around : 2 * ROUTES.around) + 4);
+  return Math.max(isNarrow ? NARROW.side : EVENTS.side, longest * ROUTES.letter + (isNarrow ? 1 : 2) * ROUTES.around + 4);
 }
 
 /** Where the words of the programs stand, and the names of the cores. */
@@ -46,7 +45,7 @@ function wordsOfPrograms(programs, { lane, side, tops, codes }) {
 }
 
 /** Where each event's box stands: in its core's lane, under its instruction. */
-function layOutEvents(programs, edges, isNarrow = false) {
+function layOutEvents(programs, edges, isNarrow) {
   const events = eventsOf(edges), rows = Math.max(...programs.map(program => program.length)), far = farEdges(edges), channels = channelsOf(far, rows);
   const widest = Math.max(...programs.flat().map(text => text.length + EVENTS.place), ...events.map(({ text }) => text.length)), side = sideFor(edges, isNarrow);
   const lane = (isNarrow ? NARROW.least : Math.max(EVENTS.least, widest * EVENTS.letter + 12)) + 2 * side, codes = codesOf(programs, rows, isNarrow);
@@ -105,26 +104,18 @@ function leftOutSaid(programs, edges) {
 /** An event's text with its lane in the place of its core. */
 const inLane = (cores, text) => text.replace(/^P(\d)/, (_, core) => `P${cores.indexOf(Number(core))}`);
 
-const PAGE_EDGES = 34; // pixels beside the page and the picture
-
-/** How events are laid out: in narrow lanes where the window, with letters that can be read, hasn't room for wide ones. */
-function layOutInWindow(programs, edges) {
-  const wide = layOutEvents(programs, edges);
-  if (programs.length <= MANY_CORES || wide.width * NARROW.smaller <= innerWidth - PAGE_EDGES) return wide;
-  return layOutEvents(programs, edges, true);
-}
-
 /** Edges over programs, as a figure of this name. Where there is less room the picture is made smaller, and at last scrolled. */
 function drawEdges(programs, edges, name, isAll = false) {
   const cores = drawnCores(programs, edges, isAll), shown = cores.map(core => programs[core]);
   const laid = edges.map(edge => ({ ...edge, from: inLane(cores, edge.from), to: inLane(cores, edge.to) }));
-  const layout = layOutInWindow(shown, laid), ways = edgeWays(layout, laid), chips = chipsOf(layout, laid, ways);
+  const wide = layOutEvents(shown, laid), isNarrow = cores.length > MANY_CORES && wide.width * NARROW.smaller > innerWidth;
+  const layout = isNarrow ? layOutEvents(shown, laid, true) : wide, ways = edgeWays(layout, laid), chips = chipsOf(layout, laid, ways);
   const used = usedRelations(edges);
   const picture = svg('svg', { class: 'picture', viewBox: `0 0 ${layout.width} ${layout.height}`, role: 'img', 'aria-label': `${name}. The text beside it says the same.` },
     svg('defs', {}, ...used.map(drawPoint)), ...edges.map((edge, at) => drawWay(ways[at], edge, at)),
     ...shown.map((program, lane) => drawLane(layout, program, lane, cores[lane])), ...[...layout.boxes.values()].map(drawEvent),
     ...edges.map((edge, at) => drawLetters(chips[at], edge, at)));
-  picture.style.width = `max(100%, ${(layout.isNarrow ? NARROW : EVENTS).smaller * layout.width}px)`;
+  picture.style.width = `max(100%, ${(isNarrow ? NARROW : EVENTS).smaller * layout.width}px)`;
   const figure = html('figure', { tabindex: 0, 'aria-label': name }, picture);
   figure.style.flex = `0 1 ${layout.width}px`; // in a lecture it takes the whole width
   return figure;

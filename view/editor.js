@@ -72,11 +72,10 @@ const WIDE_LINE = 78; // letters, from which on a test has the whole width
 
 const ROWS = { least: 12, most: 18 }; // of the field of a test, which grows with it
 
-/** Gives a test with long lines, as one of many cores has, the whole width. Then the list of examples stands under it, and folds. */
+/** Gives a test with long lines, as one of many cores has, the whole width. The list under it folds then. */
 function showWidth() {
-  const part = byId('test-part'), wasWide = part.classList.contains('wide');
-  const isWide = part.classList.toggle('wide', byId('test').value.split('\n').some(line => line.length > WIDE_LINE));
-  if (isWide && !wasWide) byId('library').open = false;
+  const { classList } = byId('test-part'), wasWide = classList.contains('wide');
+  if (classList.toggle('wide', byId('test').value.split('\n').some(line => line.length > WIDE_LINE)) && !wasWide) byId('library').open = false;
 }
 
 /** Draws the numbers of a field's lines, and marks this one; null marks none. Where they are drawn so already it does nothing, since to
@@ -106,17 +105,11 @@ function placeLines(id) {
   band.style.setProperty('--left', `${-field.scrollLeft}px`);
 }
 
-/** Where a refusal is: the field and its line, or the field and its word. */
-function placeOfRefusal(line) {
+/** Where a refusal is: the field and its line, or the field and its word. Of a bracket that nothing closes the hint has its line. */
+function placeOfRefusal(line, hint = '') {
   const found = /^Refused (test|order) line (\d+) |^Refused choices word (\d+) /.exec(line);
   if (!found) return null;
-  return found[3] ? { field: 'choices', word: Number(found[3]) } : { field: found[1] === 'order' ? 'given' : 'test', line: Number(found[2]) };
-}
-
-/** Of a bracket that nothing closes: the line where it stands, as the hint has it, in place of that where the text ends. */
-function placeOfBracket(place, hint) {
-  const line = /no \) closes the \( of line (\d+)/.exec(hint)?.[1];
-  return place?.field === 'test' && line !== undefined ? { field: 'test', line: Number(line) } : place;
+  return found[3] ? { field: 'choices', word: Number(found[3]) } : { field: found[1] === 'order' ? 'given' : 'test', line: Number(/closes the \( of line (\d+)/.exec(hint)?.[1] ?? found[2]) };
 }
 
 /** The cells of a row of programs, each with its text and where that begins. */
@@ -172,7 +165,7 @@ function focusRefusal() {
 
 /** Marks what is refused, or nothing, and says it in plain words. */
 function markRefusal({ text: line, hint }) {
-  const place = placeOfBracket(placeOfRefusal(line), hint ?? ''), cell = place?.field === 'test' ? cellAtFault(byId('test').value.split('\n')[place.line - 1] ?? '', hint ?? '') : null;
+  const place = placeOfRefusal(line, hint), cell = place?.field === 'test' ? cellAtFault(byId('test').value.split('\n')[place.line - 1] ?? '', hint ?? '') : null;
   byId('plain').textContent = plainRefusal(place, cell, line);
   for (const id of ['test', 'given']) drawLines(id, place?.field === id && place.line ? place.line : null);
   markCell(cell);

@@ -149,11 +149,10 @@ function renameListed(at) {
   });
 }
 
-/** Folds the list, so that what is shown next stands where it did; who was in it is at its name then. */
+/** Folds the list; a focus in it goes to its name. */
 function foldList() {
-  const part = byId('list-part'), isIn = part.open && part.contains(document.activeElement);
-  part.open = false;
-  if (isIn) part.firstElementChild.focus({ preventScroll: true });
+  document.querySelector('#list-part:focus-within > summary')?.focus();
+  byId('list-part').open = false;
 }
 
 /** Brings the list into sight, open. */

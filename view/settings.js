@@ -85,7 +85,7 @@ function putSettings(pairs) {
 function putCommand(name) {
   const choice = document.querySelector(`#commands input[value=${commandOf(name)}]`);
   choice.checked = true;
-  if (byId('rarer').contains(choice)) byId('rarer').open = true;
+  choice.closest('#rarer')?.setAttribute('open', '');
   showSettings(commandOf(name));
 }
 
