@@ -57,7 +57,7 @@ function showMoves() {
   for (const id of ['play', 'draw-seed']) byId(id).disabled = isAtEnd(drive);
 }
 
-/** Marks the core on which keys act, while a key has named it and the choice is still to come (`isAsked`). */
+/** Marks the core on which keys act, while a key has named it and the choice is to come (`isAsked`). */
 function markKeyed(isAsked) {
   document.documentElement.classList.toggle('keyed', isAsked);
   for (const { panels } of drawn.panels) panels.forEach(({ element }, core) => element.classList.toggle('chosen', core === drive.core));
