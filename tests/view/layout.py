@@ -5,10 +5,11 @@ from bench import differs, safety
 from drawn_edges import CROSSED
 from driver import Driver
 from playlists import CLICKED
-from teaching import press, test_of
+from teaching import is_in_sight, press, test_of
 
 LUMINANCE = """(colour => {
-  const [r, g, b] = colour.match(/[\\d.]+/g).slice(0, 3).map(each => each / 255).map(each => (each <= 0.03928 ? each / 12.92 : ((each + 0.055) / 1.055) ** 2.4));
+  const linear = each => (each <= 0.03928 ? each / 12.92 : ((each + 0.055) / 1.055) ** 2.4);
+  const [r, g, b] = colour.match(/[\\d.]+/g).slice(0, 3).map(each => linear(each / 255));
   return 0.2126 * r + 0.7152 * g + 0.0722 * b;
 })"""
 # The contrast of the ring with the page, a panel and a button, and whether anything else has its colour.
@@ -18,7 +19,8 @@ RING = """(() => {
   const ratio = (one, other) => { const [a, b] = [one, other].map(luminance).sort((x, y) => y - x); return (a + 0.05) / (b + 0.05); };
   byId('first-lesson').focus();
   const ring = getComputedStyle(byId('first-lesson')).outlineColor;
-  return [Math.min(...['--ground', '--panel', '--button'].map(name => ratio(ring, shown(name)))), ['--passed', '--store', '--waiting', '--read', '--ink'].filter(name => shown(name) === ring)];
+  return [Math.min(...['--ground', '--panel', '--button'].map(name => ratio(ring, shown(name)))),
+    ['--passed', '--store', '--waiting', '--read', '--ink'].filter(name => shown(name) === ring)];
 })()""" % LUMINANCE
 
 
@@ -112,8 +114,8 @@ EIGHT = ("X86 eight\n{ }\n %s ;\n" % " | ".join("P%d" % core for core in range(8
          + "exists (%s)\n" % " /\\ ".join("%d:EAX=1" % core for core in range(8)))
 FITS = """(figure => {
   const picture = figure.querySelector('svg'), scale = picture.getBoundingClientRect().width / picture.viewBox.baseVal.width;
-  return [figure.scrollWidth <= figure.clientWidth, Math.min(...[...picture.querySelectorAll('text')].map(each => parseFloat(each.getAttribute('font-size')) * scale)) >= 11,
-    figure.querySelectorAll('.head').length];
+  const sizes = [...picture.querySelectorAll('text')].map(each => parseFloat(each.getAttribute('font-size')) * scale);
+  return [figure.scrollWidth <= figure.clientWidth, Math.min(...sizes) >= 11, figure.querySelectorAll('.head').length];
 })(document.querySelector('.reason figure'))"""
 
 
@@ -130,7 +132,8 @@ def eight_cores_row(bench, folder):
 
 def notice_row(bench):
     """What was saved is said once, at the button that was pressed."""
-    said = "[...document.querySelectorAll('.page-saved')].filter(each => each.textContent !== '').map(each => each.parentElement.id || each.parentElement.className)"
+    said = ("[...document.querySelectorAll('.page-saved')].filter(each => each.textContent !== '')"
+            ".map(each => each.parentElement.id || each.parentElement.className)")
     bench.open_fresh()
     bench.value("saveFile = () => {}; byId('test-part').open = true")
     faults = []
@@ -151,7 +154,7 @@ def wide_answer_row(bench):
     press(bench, "#commands [value=why]")
     press(bench, "#begin")
     bench.wait("!bench.task && document.querySelector('.reason')")
-    return faults + differs("the answer in sight", bench.value("(({ top, bottom }) => top >= 0 && bottom <= innerHeight)(document.querySelector('.answer-title').getBoundingClientRect())"), True) + safety(bench)
+    return faults + differs("the answer in sight", is_in_sight(bench, ".answer-title"), True) + safety(bench)
 
 
 def bracket_row(bench):
