@@ -76,7 +76,7 @@ const nearest = (places, part = document.activeElement) => part && ([...part.que
 
 /** Says what was saved or copied last, at the nearest of these places, and takes away what was said before. */
 function sayDone(places, said) {
-  const place = nearest(places);
+  const place = nearest(places) ?? document.querySelector(places);
   for (const notice of document.querySelectorAll(NOTICES)) putText(notice, notice === place ? said : '');
 }
 

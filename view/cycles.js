@@ -3,7 +3,7 @@
 // Events and edges drawn over the programs: a cycle, edge by edge, or an execution. All measures are pixels.
 
 const EVENTS = { least: 120, side: 44, code: 20, line: 15, box: 26, gap: 6, head: 30, thin: 6, letter: 8, place: 4, smaller: 0.7 };
-const NARROW = { least: 116, side: 26, letters: 14, smaller: 0.92 }; // where the lanes of many cores don't fit the window
+const NARROW = { least: 116, side: 26, letters: 14, smaller: 0.92 }; // for lanes that don't fit the window
 
 /** The events that edges name, each once. */
 const eventsOf = edges => [...new Map(edges.flatMap(({ from, to }) => [from, to]).map(text => [nameOfEvent(text), eventOf(text)])).values()];
@@ -27,7 +27,7 @@ function linesOfCode(text, place, isNarrow) {
   return isNarrow && whole.length > NARROW.letters ? whole.split(/ (?=\S+$)/) : [whole];
 }
 
-/** The heights of the rows' instructions. */
+/** The heights of instructions. */
 const codesOf = (programs, rows, isNarrow) => Array.from({ length: rows }, (_, row) =>
   EVENTS.code + EVENTS.line * (Math.max(...programs.map(program => linesOfCode(program[row] ?? '', row, isNarrow).length)) - 1));
 

@@ -81,7 +81,7 @@ function putSettings(pairs) {
   }
 }
 
-/** Chooses a command, and opens the fold that has it. */
+/** Chooses a command, with its fold open. */
 function putCommand(name) {
   const choice = document.querySelector(`#commands input[value=${commandOf(name)}]`);
   choice.checked = true;
