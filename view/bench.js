@@ -72,7 +72,8 @@ let noticed = '';
 const NOTICES = '#words-copied, #copied, #report-copied, .page-saved';
 
 /** Of some places the one in sight that is nearest to the focus. */
-const nearest = (places, part = document.activeElement) => part && ([...part.querySelectorAll(places)].find(each => each.checkVisibility()) ?? nearest(places, part.parentElement));
+const nearest = (places, part = document.activeElement) => part
+  && ([...part.querySelectorAll(places)].find(each => each.checkVisibility()) ?? nearest(places, part.parentElement));
 
 /** Says what was saved or copied last, at the nearest of these places, and takes away what was said before. */
 function sayDone(places, said) {

@@ -47,7 +47,8 @@ function wordsOfPrograms(programs, { lane, side, tops, codes }) {
 /** Where each event's box stands: in its core's lane, under its instruction. */
 function layOutEvents(programs, edges, isNarrow) {
   const events = eventsOf(edges), rows = Math.max(...programs.map(program => program.length)), far = farEdges(edges), channels = channelsOf(far, rows);
-  const widest = Math.max(...programs.flat().map(text => text.length + EVENTS.place), ...events.map(({ text }) => text.length)), side = sideFor(edges, isNarrow);
+  const widest = Math.max(...programs.flat().map(text => text.length + EVENTS.place), ...events.map(({ text }) => text.length));
+  const side = sideFor(edges, isNarrow);
   const lane = (isNarrow ? NARROW.least : Math.max(EVENTS.least, widest * EVENTS.letter + 12)) + 2 * side, codes = codesOf(programs, rows, isNarrow);
   const isSecond = event => event.kind === 'LW' && events.some(other => other.kind === 'LR' && other.core === event.core && other.place === event.place);
   const there = row => events.filter(({ place }) => place === row);

@@ -105,11 +105,12 @@ function placeLines(id) {
   band.style.setProperty('--left', `${-field.scrollLeft}px`);
 }
 
-/** Where a refusal is: the field and its line, or the field and its word. Of a bracket that nothing closes the hint has its line. */
+/** Where a refusal is: the field and its line, or the field and its word. Of an open bracket the hint has its line. */
 function placeOfRefusal(line, hint = '') {
   const found = /^Refused (test|order) line (\d+) |^Refused choices word (\d+) /.exec(line);
   if (!found) return null;
-  return found[3] ? { field: 'choices', word: Number(found[3]) } : { field: found[1] === 'order' ? 'given' : 'test', line: Number(/closes the \( of line (\d+)/.exec(hint)?.[1] ?? found[2]) };
+  return found[3] ? { field: 'choices', word: Number(found[3]) }
+    : { field: found[1] === 'order' ? 'given' : 'test', line: Number(/closes the \( of line (\d+)/.exec(hint)?.[1] ?? found[2]) };
 }
 
 /** The cells of a row of programs, each with its text and where that begins. */

@@ -134,7 +134,8 @@ def kept_list_row(bench):
     faults += differs("after one was taken off", bench.value("taught.list.map(({ name }) => name)"), ["SB: run, 1 choice"])
     bench.value("saveFile = () => {}; savePage()")
     bench.wait("[...document.querySelectorAll('.page-saved')].some(each => each.textContent !== '')")
-    faults += [] if "Saved as MP.html" in bench.value("[...document.querySelectorAll('.page-saved')].map(each => each.textContent).join('')") else ["it doesn't say what was saved"]
+    said = bench.value("[...document.querySelectorAll('.page-saved')].map(each => each.textContent).join('')")
+    faults += [] if "Saved as MP.html" in said else ["it doesn't say what was saved"]
     return faults + safety(bench)
 
 
