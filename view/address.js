@@ -13,7 +13,7 @@ function currentAddress() {
   const pairs = [['test', byId('test').value], ['choices', choicesText()], ['order', byId('given').value], ['command', command]];
   const told = pairs.filter(([name, value]) => name === 'test' || (name === 'command' ? value !== 'run' : value !== ''));
   const embedded = document.documentElement.classList.contains('embedded') ? [['embed', '1']] : [];
-  return new URLSearchParams([...told, ...changedSettings(), ...driven(), ...embedded]).toString();
+  return new URLSearchParams([...told, ...changedSettings(), ...driven(), ...exerciseToKeep(), ...embedded]).toString();
 }
 
 /** Of a machine that is driven how many of the choices are made, where not all are, what is beside it, whether somebody wants the caches
@@ -101,6 +101,7 @@ function openTest(fragment) {
   const why = ['test', 'choices', 'order'].map(name => whyTooLong(told.get(name) ?? '')).find(each => each !== null);
   if (why) return sayInSight(why);
   putInput(told.get('test'));
+  putExercise(told);
   if (told.has('choices')) putChoices(told.get('choices'));
   if (told.has('order')) byId('given').value = told.get('order');
   putSettings(told);

@@ -104,6 +104,7 @@ function showAsked(command) {
   showWordsLine(command);
   forgetNotices(command);
   showLeft();
+  showExercise();
   byId('drive-it').hidden = command !== 'run';
   byId('begin').disabled = settings.wrong !== undefined;
   return settings;
@@ -243,11 +244,11 @@ function backToRun() {
 }
 
 /** Asks a long command about the test, by one click from its run. */
-function ask(command) {
+function ask(command, { isAgain } = {}) {
   keepOwnRun();
   foldList();
   putCommand(command);
-  begin();
+  begin({ isAgain });
 }
 
 const findOutcomes = () => ask('outcomes');

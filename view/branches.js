@@ -35,13 +35,13 @@ function takeBranch(at) {
 
 function branchButton({ words, count }, at) {
   const rest = words.slice(count), said = rest.slice(0, SAID_OF_BRANCH).join(' ') + (rest.length > SAID_OF_BRANCH ? ' …' : '');
-  return html('button', { type: 'button', 'data-branch': at, class: 'quiet' }, `${count === 0 ? 'from the start' : `after ${count}`}: ${said}`);
+  return html('button', { type: 'button', 'data-branch': at, class: 'quiet' }, `${count === 0 ? 'from the start' : `after choice ${count}`}: ${said}`);
 }
 
 function showBranches() {
   const others = branches.kept.length === 0 ? [] : otherBranches();
   byId('branches').hidden = others.length === 0;
-  if (others.length > 0) putChildren(byId('branches'), [html('span', {}, 'Take again what came'), ...others.map(branchButton)]);
+  if (others.length > 0) putChildren(byId('branches'), [html('span', {}, 'Your earlier run'), ...others.map(branchButton)]);
 }
 
 document.addEventListener('click', ({ target }) => {

@@ -6,7 +6,7 @@
 const COUNTED = {
   hits: 'hits', misses: 'misses', upgrades: 'upgrades', forwards: 'loads that a store buffer answered', get_s: 'GetS on the bus', get_m: 'GetM on the bus',
   invalidations: 'copies of other caches made invalid', from_caches: 'lines that another cache supplied', from_memory: 'lines that memory supplied',
-  to_memory: 'lines written to memory for it', flushes: 'flushes', write_backs: 'write-backs',
+  to_memory: 'lines that its requests sent to memory', flushes: 'flushes', write_backs: 'write-backs',
 };
 
 /** Whether a module answers `counts`; an older one doesn't. */
@@ -18,11 +18,11 @@ function tellsCounts(tso) {
   }
 }
 
-/** How many of the runs ended, in words. */
-function countedSentence({ ended, unfinished }) {
+/** How many of the runs ended, in words, and under which protocol. */
+function countedSentence({ ended, unfinished }, protocol) {
   if (ended === 0) return 'No run ended, so there is nothing to count. Give each seed more choices.';
   const left = unfinished === 0 ? '' : ` ${unfinished} didn’t end and aren’t counted.`;
-  return `${ended === 1 ? 'One run' : `${ended} runs`} ended.${left} What happens when a test settles at its end isn’t counted.`;
+  return `${ended === 1 ? 'One run' : `${ended} runs`} by chance, under ${protocol.toUpperCase()}, ended.${left} What happens when a test settles at its end isn’t counted.`;
 }
 
 /** A number's sum over the runs, and the least and the greatest of one run. */
@@ -42,5 +42,5 @@ function showCounts(answer) {
   const { cores, runs } = JSON.parse(answer.text);
   showAnswer(answer);
   foldReport(answer);
-  byId('states').replaceChildren(answerTitle('What the caches did'), html('p', { role: 'status' }, countedSentence(runs)), ...(cores === null ? [] : [countsTable(cores)]));
+  byId('states').replaceChildren(answerTitle('What the caches did'), html('p', { role: 'status' }, countedSentence(runs, valueOf('protocol'))), ...(cores === null ? [] : [countsTable(cores)]));
 }

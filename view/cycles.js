@@ -33,7 +33,7 @@ const codesOf = (programs, rows, isNarrow) => Array.from({ length: rows }, (_, r
 
 /** The room beside the boxes of a lane: the letters of the longest name of a relation have to go there. */
 function sideFor(edges, isNarrow) {
-  const longest = Math.max(0, ...edges.map(({ relation }) => relation.length));
+  const longest = Math.max(0, ...edges.map(({ relation }) => letterOf(relation).length));
   return Math.max(isNarrow ? NARROW.side : EVENTS.side, longest * ROUTES.letter + (isNarrow ? 1 : 2) * ROUTES.around + 4);
 }
 
@@ -67,7 +67,7 @@ const drawWay = (way, edge, at) => svg('g', { class: `edge edge-${edge.relation}
 
 /** The letters of an edge, which stand over all else. */
 const drawLetters = (chip, edge, at) => svg('g', { class: `edge edge-${edge.relation}`, 'data-letters': at }, svg('title', {}, edgeSentence(edge)),
-  svg('rect', { class: 'chip', ...chip, rx: 4 }), textAt({ x: chip.x + chip.width / 2, y: chip.y + 13 }, 12, edge.relation));
+  svg('rect', { class: 'chip', ...chip, rx: 4 }), textAt({ x: chip.x + chip.width / 2, y: chip.y + 13 }, 12, letterOf(edge.relation)));
 
 /** The point of an arrow in its relation's colour. */
 const drawPoint = relation => svg('marker', { id: `point-${relation}`, viewBox: '0 0 8 8', refX: 7, refY: 4, markerWidth: 9, markerHeight: 9, markerUnits: 'userSpaceOnUse', orient: 'auto' },
@@ -125,7 +125,7 @@ function drawEdges(programs, edges, name, isAll = false) {
 /** What the letters at the edges mean. */
 function relationList(edges) {
   const used = usedRelations(edges);
-  const item = relation => html('li', {}, html('span', { class: `relation edge-${relation}` }, relation), ` ${meaningOf(relation, edges)}`);
+  const item = relation => html('li', {}, html('span', { class: `relation edge-${relation}` }, letterOf(relation)), ` ${meaningOf(relation, edges)}`);
   return html('ul', { class: 'small relations', 'aria-label': 'Relations' }, ...used.map(item));
 }
 

@@ -12,7 +12,7 @@ function showDrive() {
   const before = step && history.machineAfter(count - 1);
   const said = step ? `${step.choice}: ${stepSentences(step, before, history.programs, isPlain).join(' ')}` : count === 0 ? startSentence(history) : 'The first machine\'s test has ended.';
   byId('sentence').textContent = lessonTells() ? '' : ofFirst(history, step ? ', ' : ': ') + said + nextSentence();
-  byId('count').textContent = `${count} ${count === 1 ? 'choice' : 'choices'} made`;
+  byId('count').textContent = `${choicesSaid(count)} made`;
   showMoves();
   showBranches();
   markDifferences();
@@ -37,10 +37,13 @@ function keepInSight() {
 /** Whether what one steps by stands at the lower edge of the window, as it does on a narrow one. */
 const isStepperBelow = () => matchMedia('(max-width: 560px)').matches;
 
+const choicesSaid = count => `${count} ${count === 1 ? 'choice' : 'choices'}`;
+
 /** What is said at the start: that choices are known, or how many a run needs. */
 function startSentence(history) {
   const known = drive.words.length, seed = /^\s*seed\s+(\d+)\s+\d+\s*$/.exec(choicesText())?.[1], by = seed === undefined ? '' : `, drawn by chance from seed ${seed}`;
-  if (known > 0) return `The machine at its start. ${known === 1 ? 'One choice is' : `${known} choices are`} known${by}: Forward makes ${known === 1 ? 'it' : 'them'}.`;
+  const whose = drive.words === fromExample.words ? `This example comes with ${choicesSaid(known)}` : known === 1 ? 'One choice is known' : `${known} choices are known`;
+  if (known > 0) return `The machine at its start. ${whose}${by}: Forward makes ${known === 1 ? 'it' : 'them'}.`;
   return `Press step or drain at a core: its next instruction, or its oldest store to memory.${leastSentence(history)}`;
 }
 
@@ -159,6 +162,21 @@ function keepPosition(act) {
   if (isOn) placeInRun = count < words.length ? words.slice(0, count) : null;
   act();
   if (placeInRun !== null && drive.isOn && beginWith(drive.words, placeInRun)) goTo(placeInRun.length);
+}
+
+/** The numbers of the steps that changed nothing. */
+const stallsOf = ({ steps }) => steps.flatMap(({ outcome }, at) => (outcome === 'stalled' ? [at] : []));
+
+/** After an edit of the test: where a choice that was made does nothing any more, the run is shown before it. Says which choices were left out. */
+function stayBeforeStall(stalledBefore) {
+  const at = stallsOf(firstHistory()).find(each => !stalledBefore.includes(each)), text = choicesText(), known = countChoices(text);
+  if (at !== undefined && at < drive.count) {
+    goTo(at);
+    sayOfDriving(`The test is another now: ${at} of your ${known} choices still do the same, and ${drive.words[at]} would do nothing. ` +
+      `Left out: ${drive.words.slice(at).join(' ')}. Forward makes them all the same.`);
+  } else if (!text.includes('seed') && known > drive.words.length) {
+    sayOfDriving(`The test is another now, and ends after ${drive.words.length} of your ${known} choices. ${byId('sentence').textContent}`);
+  }
 }
 
 /** Shows a run as a machine that is driven, `isAtStart` before its choices and else after them. Answers whether it can be. */

@@ -101,7 +101,7 @@ function doneWord(history, count) {
 /** What is said after a try. */
 function afterTry(history, count, met, quantifier) {
   if (met === null) return lostSentence(history, count, quantifier);
-  if (!met) return ` ${missedSentence(history, count, quantifier)} Go back, or make other choices.`;
+  if (!met) return ` ${missedSentence(history, count, quantifier)} ${possible.refuted === drive.test ? 'It can’t be done, as you saw.' : 'Go back, or make other choices.'}`;
   const claim = quantifier === 'exists' ? '' : ' So the claim of the test is wrong.';
   const passes = passesOf(history.order.slice(0, history.momentAfter(count).rows), '').filter(sentence => sentence !== '');
   const more = passes.splice(MOST_PASSES).length, rest = more > 0 ? ` And ${more} more.` : '';
@@ -111,16 +111,17 @@ function afterTry(history, count, met, quantifier) {
 /** Shows the task, and when it is met why, by what the loads passed. `run` is the run, where it has ended. After a try that missed what
  * may be impossible the page offers to say why. */
 function showTask(history, count, run) {
+  showExercise();
   const { proposition } = history, quantifier = quantifierOf(drive.test), hasTask = proposition !== null && quantifier !== null && lesson.told === null;
   byId('task').hidden = !hasTask;
   if (!hasTask) return;
   askPossibleSoon();
-  const can = canBe(), met = isMet(history, count, run?.condition, quantifier);
+  const can = isUnanswered() ? null : canBe(), met = isMet(history, count, run?.condition, quantifier);
   const task = `${met ? '✓' : '☐'} ${met ? 'Task:' : taskTitle(can)} ${CLAIMS[quantifier]}${taskSentence(testName(), proposition, quantifier)}`;
   byId('task').classList.toggle('met', met === true);
-  byId('task').classList.toggle('asked', met !== true && possible.isAsked); // so that its title doesn't change before one's eyes
+  byId('task').classList.toggle('asked', met !== true && possible.isAsked && !isUnanswered()); // so that its title doesn't change before one's eyes
   putText(byId('task-said'), task);
-  const offers = met === false && can !== true && document.querySelector('#commands [value=why]') !== null;
+  const offers = met === false && can !== true && !isUnanswered() && document.querySelector('#commands [value=why]') !== null;
   putText(byId('task-after'), afterTry(history, count, met, quantifier));
   byId('task-why').hidden = !offers;
   putText(byId('task-why'), offers ? 'Why can or can\'t it be?' : '');

@@ -142,6 +142,7 @@ function lessonDid(word) {
   if (lesson.told === null || lesson.isDone || stepNow().do !== word) return;
   putLesson({ isDone: true, refused: '' });
   drawLesson();
+  byId('lesson-next').focus({ preventScroll: true });
   lookAtPicture();
 }
 

@@ -129,6 +129,19 @@ const LESSONS = [
           'order. Press “Next arrow” to follow the cycle arrow by arrow.',
       },
       {
+        test: 'X86 SB1F\n{ x=0; y=0; }\n P0          | P1          ;\n MOV [x],$1  | MOV [y],$1  ;\n MFENCE      | MOV EAX,[x] ;\n MOV EAX,[y] |             ;\n' +
+          'exists (0:EAX=0 /\\ 1:EAX=0)\n',
+        title: 'Is one fence enough?',
+        ask: 'Now only P0 has a fence. Can both loads read 0 again?', answers: ['Yes', 'No'], right: 'Yes',
+        because: 'Nothing keeps P1’s load behind P1’s store. One load that passes its store is enough. We try it.',
+      },
+      { do: '1s', say: 'P1’s store: 1s.', then: 'The store waits in P1’s buffer.' },
+      { do: '1s', say: 'P1 has no fence, so it loads at once: 1s.', then: 'P1 read x=0. Its load passed its store.' },
+      { do: '0s', say: 'P0’s store: 0s.', then: 'It waits in P0’s buffer.' },
+      { do: '0d', say: 'P0’s fence needs it in memory: 0d.', then: 'Memory has x=1, too late for P1’s load.' },
+      { do: '0s', say: 'P0’s fence: 0s.', then: 'P0 may load now.' },
+      { do: '0s', say: 'And its load: 0s.', then: 'P0 read y=0, since P1’s store still waits. So both loads read 0: each of the two cores needs its fence.' },
+      {
         say: 'In C and C++ such a fence is atomic_thread_fence(memory_order_seq_cst). There x and y have to be atomic: with plain variables the compiler may ' +
           'change the order too. A fence costs the wait for the buffer, so one puts it only where the order of a store and a later load matters, as in a ' +
           'lock that works by flags.',

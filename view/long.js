@@ -14,6 +14,7 @@ function showRefusalAlone(command) {
   clearTimeout(bench.again);
   if (isLive && isAnswered) bench.again = setTimeout(() => currentCommand() === 'why' && begin({ isAgain: true }), TYPING);
   else showAnswer(isRefused ? answer : { status: 0, text: '', hint: '' });
+  if (!isRefused && !(isLive && isAnswered)) byId('states').replaceChildren(html('p', { class: 'faint to-begin' }, `Press “${BEGINS[command]}”.`));
 }
 
 function stopTask() {

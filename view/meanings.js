@@ -14,7 +14,7 @@ const MEANINGS = {
   Under: 'TSO alone: such an end needs store buffers. Sequential consistency has none like it.',
   Condition: 'Whether the proposition of the test’s condition is true of this end.',
   seed: 'A number from which choices are drawn at random. The same seed draws the same choices.',
-  exercise: 'One file of the whole page, with this test and its settings: no choices and no list. Who has it can still ask for all outcomes, and why.',
+  exercise: 'One file of the whole page, with this test and your question: no choices, no list. All outcomes and why are there after an answer.',
   lecture: 'Large type, and only what is taught. A clicker’s keys, PageDown and PageUp, step lessons, runs, reasons, and a list of tests.',
   beside: 'Another machine that makes the same choices, so that one sees what differs.',
   depth: 'How many stores wait at most in a core’s store buffer. With 0 there is none: that is sequential consistency. ' +

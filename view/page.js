@@ -8,9 +8,11 @@ const FIRST_TEXT = 'store-buffering.litmus';
 const WRITTEN = ['test', 'choices', 'given'];
 
 /** What one writes takes the place of an answer's run, and one stays at one's place. */
-function writeOn() {
+function writeOn({ target }) {
+  const stalled = drive.isOn ? stallsOf(firstHistory()) : [];
   forgetOwnRun();
   keepPosition(answerNow);
+  if (target.id === 'test' && drive.isOn) stayBeforeStall(stalled);
 }
 
 /** A text that came in as a whole: a test goes to the bench, and any other is a line of a run. */
@@ -29,12 +31,23 @@ function takeText(text) {
   byId('bench').scrollIntoView({ block: 'nearest' });
 }
 
-/** Takes a text of the list of examples, and brings the machine with it into sight. */
+/** The choices that came with the example that was taken last. */
+const fromExample = { words: null };
+
+/** Takes a text of the list of examples, and brings the machine with it into sight. Who asked for outcomes or for a reason is answered of it. */
 function takeFromLibrary(file) {
+  const command = currentCommand();
   putDrive({ beside: null }); // what stood beside another test
   loadText(file);
   if (bench.answer?.status === Tso.STATUS.refused) return;
+  if (Object.hasOwn(LIMIT_OF, command) && currentCommand() === 'run') {
+    working.asker = byId('test');
+    ask(command, { isAgain: true });
+    return;
+  }
   leaveOutStalls();
+  fromExample.words = drive.words;
+  if (drive.isOn) showDrive(); // whose the choices are
   byId('test-part').open = byId('about').open = false;
   byId('bench').scrollIntoView({ block: 'nearest' });
 }
@@ -48,7 +61,6 @@ function leaveOutStalls() {
   if (!history) return;
   beginDrive(history, { test: drive.test, given: null }, 0);
   putWords();
-  showDrive(); // what is said of the choices that are known
 }
 
 /** Leads from the test to its machine. */

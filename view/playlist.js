@@ -112,12 +112,12 @@ const listButton = (attributes, text, isOff = false) => html('button', { type: '
 /** The bar over the machine: which entry is shown, if one is, and the ways to the one before and the next. */
 function drawBar(isEntry) {
   const { list } = taught, { at } = playlist;
-  const all = `${list.length} ${list.length === 1 ? 'test' : 'tests'}`;
-  const next = at + 1 < list.length ? `Next test: ${list[at + 1].name} ▶` : at > 0 ? LIST_END : 'Next test ▶';
+  const all = `${list.length} ${list.length === 1 ? 'entry' : 'entries'}`;
+  const next = at + 1 < list.length ? `Next: ${list[at + 1].name} ▶` : at > 0 ? LIST_END : 'Next ▶', isOut = at >= 0 && !isEntry && at + 1 >= list.length;
   const where = at < 0 ? all : isEntry ? `${at + 1} of ${list.length}: ${list[at].name}` : `Not in the list of ${all}`;
   playlist.isEntry = isEntry;
-  byId('list-bar').replaceChildren(listButton({ 'data-listed': at - 1 }, '◀ Previous test', at <= 0), html('span', {}, where),
-    listButton({ 'data-listed': at + 1 }, next, at >= list.length - 1));
+  byId('list-bar').replaceChildren(listButton({ 'data-listed': at - 1 }, '◀ Previous', at <= 0), html('span', {}, where),
+    ...(isOut ? [] : [listButton({ 'data-listed': at + 1 }, next, at >= list.length - 1)]));
 }
 
 function drawList() {

@@ -59,7 +59,7 @@ const NO_ANSWERS = {
 
 /** What a step of a reason says. */
 const STEP_SENTENCES = {
-  case: step => (step.answers ? `If ${answersWords(step.answers)}${step.closing ? `: ${lowered(closingSentence(step.closing))}` : ''}` : step.read ? `If ${step.read} reads ${eitherOf(step.from.map(sourceText))}` : `If ${step.first} reaches memory before ${step.second}`),
+  case: step => (step.answers ? `${caseWords(step.answers)}${step.closing ? `: ${lowered(closingSentence(step.closing))}` : ''}` : step.read ? `If ${step.read} reads ${eitherOf(step.from.map(sourceText))}` : `If ${step.first} reaches memory before ${step.second}`),
   so: step => (step.answers ? `So ${answersWords(step.answers)}${step.closing ? `: ${lowered(closingSentence(step.closing))}` : '.'}` : step.read ? `So ${step.read} reads ${eitherOf(step.from.map(sourceText))}.` : `So ${step.first} reaches memory before ${step.second}.`),
   endcases: () => 'No other case is left.',
   given: ({ facts }) => `Asked for: ${listed(facts.map(factWords))}.`,
@@ -93,6 +93,15 @@ function factWords(text) {
 function answersWords(answers) {
   const words = answers.map(facts => listed(facts.map(factWords)));
   return answers.some(facts => facts.length > 1) ? words.join('; or ') : eitherOf(words);
+}
+
+const READS_FROM = factForm('(EVENT) from (initial|EVENT)');
+
+/** The answers that a case takes: where they are all that one read can read, they are listed. */
+function caseWords(answers) {
+  const reads = answers.map(facts => (facts.length === 1 ? READS_FROM.exec(facts[0]) : null)), read = reads[0]?.[1];
+  const isOne = answers.length > 1 && reads.every(found => found?.[1] === read);
+  return isOne ? `Whichever of these ${read} reads, ${eitherOf(reads.map(([, , source]) => sourceText(source)))}` : `If ${answersWords(answers)}`;
 }
 
 const lowered = sentence => sentence[0].toLowerCase() + sentence.slice(1);
@@ -143,6 +152,58 @@ function edgesOf({ sources, coherence }) {
     return [...(write === 'initial' ? [] : [{ from: write, relation: 'rf', to: read }]), ...(next === undefined || isOwn ? [] : [{ from: read, relation: 'fr', to: next }])];
   });
   return [...order, ...reads];
+}
+
+const LOCKED = /^LOCK\b|^XCHG\b.*\[/i;
+
+/** By which relation an event is before a later one of its core: TSO doesn't keep a store before a load of another location, where neither a
+ * fence nor a locked instruction keeps it. */
+function orderInProgram(from, to, programs) {
+  if (!['W', 'LW'].includes(from.kind) || !['R', 'LR'].includes(to.kind)) return 'po';
+  const between = programs[from.core].slice(from.place + 1, to.place);
+  if (from.kind === 'LW' || to.kind === 'LR' || between.some(text => LOCKED.test(text))) return 'implied';
+  if (between.some(text => /^MFENCE\b/i.test(text))) return 'mfence';
+  return from.location === to.location ? 'po' : 'unkept';
+}
+
+/** The edges of program order between the events of others. */
+function edgesOfPrograms(edges, programs) {
+  const events = eventsOf(edges), isPart = (one, other) => other.place === one.place && one.kind === 'LR' && other.kind === 'LW';
+  const isLater = (one, other) => other.core === one.core && (other.place > one.place || isPart(one, other));
+  const edgeOf = (from, to) => ({ from: from.text, relation: orderInProgram(from, to, programs), to: to.text });
+  return events.flatMap(from => events.filter(to => isLater(from, to)).map(to => edgeOf(from, to)));
+}
+
+/** A shortest way from an event back to itself, by the steps that leave each event; null where there is none. */
+function wayBack(start, leaving) {
+  const came = new Map(), reached = [start];
+  const reach = step => {
+    if (came.has(step.to)) return;
+    came.set(step.to, step);
+    reached.push(step.to);
+  };
+  for (const event of reached) leaving.get(event)?.forEach(reach);
+  if (!came.has(start)) return null;
+  const way = [came.get(start)];
+  while (way[0].from !== start) way.unshift(came.get(way[0].from));
+  return way.map(({ edge }) => edge);
+}
+
+/** A shortest cycle of an execution's edges and program order, which sequential consistency forbids; empty where there is none. */
+function forbiddenCycle(edges, programs) {
+  const stepOf = edge => ({ edge, from: nameOfEvent(edge.from), to: nameOfEvent(edge.to) }), leaving = new Map();
+  const steps = [...edges, ...edgesOfPrograms(edges, programs)].map(stepOf);
+  for (const step of steps) leaving.set(step.from, [...(leaving.get(step.from) ?? []), step]);
+  const ways = [...leaving.keys()].map(event => wayBack(event, leaving)).filter(way => way !== null);
+  return ways.sort((one, other) => one.length - other.length)[0] ?? [];
+}
+
+/** Whether a run's order is the execution of an answer: each read has the same source, and the writes to each location come in the same order. */
+function isExecution(order, { sources, coherence }) {
+  const found = new Map(order.map(entry => [nameOfEvent(entry.text), entry])), sourceName = read => found.get(nameOfEvent(read))?.source?.text ?? 'initial';
+  const writesTo = location => order.filter(entry => isWrite(entry) && entry.location === location).map(({ text }) => nameOfEvent(text));
+  return sources.every(({ read, write }) => nameOfEvent(sourceName(read)) === nameOfEvent(write)) &&
+    Object.entries(coherence).every(([location, writes]) => writes.map(nameOfEvent).join() === writesTo(location).join());
 }
 
 /** An execution in words: what each read returned, the order of writes, and what is left. */

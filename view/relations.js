@@ -8,6 +8,11 @@ const RELATIONS = {
     means: 'Program order: what a core does first is before what it does later. TSO keeps this order, except where a load comes after a store.',
     says: (from, to) => `${from} stands before ${to} in the program of its core.`,
   },
+  unkept: {
+    label: 'po, not kept',
+    means: 'Program order from a store to a later load of another location: TSO doesn’t keep it. If it did, the arrows would close a cycle.',
+    says: (from, to) => `${from} stands before ${to} in the program of its core, and TSO doesn’t keep that order.`,
+  },
   rf: {
     means: 'Reads from: a write is before the read that returns its value.',
     says: (from, to) => `${to} reads what ${from} wrote.`,
@@ -25,7 +30,8 @@ const RELATIONS = {
     says: (from, to) => `A fence stands between ${from} and ${to}, so it keeps their order.`,
   },
   implied: {
-    means: 'A locked instruction: it keeps the order of what is before it and after it, as a fence does.',
+    label: 'lock',
+    means: 'A locked instruction (“implied” in the answer as text): it keeps the order of what is before it and after it, as a fence does.',
     says: (from, to) => `A locked instruction keeps ${from} before ${to}.`,
   },
 };
@@ -52,6 +58,9 @@ function meaningOf(name, edges) {
   const locations = new Set(edges.flatMap(({ from, to }) => [from, to]).map(text => eventOf(text).location));
   return name === 'po' && locations.size === 1 ? 'Program order: accesses of one core to one location always keep it.' : relationNamed(name).means;
 }
+
+/** The letters that stand at a relation's arrows. */
+const letterOf = name => relationNamed(name).label ?? name;
 
 const relationNamed = name => (Object.hasOwn(RELATIONS, name) ? RELATIONS[name] : UNKNOWN_RELATION);
 const edgeSentence = ({ from, relation, to }) => relationNamed(relation).says(from, to);

@@ -125,7 +125,7 @@ function chipsOf(layout, edges, ways) {
   edges.forEach(({ relation }, at) => {
     const others = ways.filter((_, other) => other !== at).flatMap(({ points }) => points);
     const cost = chip => 100 * [...layout.words, ...layout.boxes.values()].filter(part => overlap(chip, part)).length + 50 * chips.filter(other => overlap(chip, other)).length + others.filter(point => holds(chip, point)).length;
-    const found = chipPoints(ways[at].points).map(point => chipAt(layout, point, relation.length)).map(chip => ({ chip, cost: cost(chip) }));
+    const found = chipPoints(ways[at].points).map(point => chipAt(layout, point, letterOf(relation).length)).map(chip => ({ chip, cost: cost(chip) }));
     chips.push(found.reduce((best, each) => (each.cost < best.cost ? each : best)).chip);
   });
   return chips;

@@ -62,14 +62,7 @@ async function saveWhole(name, makePage) {
 /** The page with what is shown; with a list of tests it is named by these. */
 function savePage() {
   const tests = taught.list.length;
-  return saveWhole(tests > 1 ? `lecture-of-${tests}-tests.html` : fileName(pictureName(), '.html'), () => wholePage(addressNow()));
+  return saveWhole(tests > 1 ? `lecture-of-${tests}-entries.html` : fileName(pictureName(), '.html'), () => wholePage(addressNow()));
 }
 
-/** The page with this test, its settings and what stands beside alone: no choices, no list, and nothing asked. */
-function saveExercise() {
-  const isKept = ([name]) => name === 'beside' || name === 'caches', { lessons } = taught;
-  const address = new URLSearchParams([['test', byId('test').value], ...changedSettings(), ...driven().filter(isKept)]).toString();
-  return saveWhole(fileName(`${testName()}-exercise`, '.html'), () => wholePage(address, lessons.length === 0 ? '' : JSON.stringify({ lessons })));
-}
-
-Object.assign(SAVES, { page: savePage, exercise: saveExercise });
+SAVES.page = savePage;

@@ -46,16 +46,17 @@ function showReason(answer, test) {
   showAnswer(answer);
   foldReport(answer);
   Object.assign(sheet, { told, programs, cycle: null });
+  if (told.answer === 'never' && told.model === 'tso') possible.refuted = test;
   const parts = told.answer === 'never' ? refutedParts(told) : allowedParts(told, programs, proposition);
   const section = html('section', { class: 'reason', 'aria-label': 'Why' }, answerTitle(told.answer === 'never' ? 'Why it can\'t be' : 'How it can be'),
     html('p', { role: 'status' }, html('strong', {}, plainAnswer(told, proposition)), html('span', { class: 'fine' }, ` ${reasonSentence(told, proposition)}`)),
-    html('p', { class: 'small faint' }, eventsSaid(answer.text)), ...parts);
+    html('p', { class: 'small faint' }, eventsSaid(answer.text)), ...countsOffer(), ...parts);
   byId('states').replaceChildren(section);
   const [first, second] = told.answer === 'never' ? cyclesOf(told.steps) : [];
   if (first) drawCycle(first.at);
   if (!second) section.querySelector('[data-cycle]')?.remove(); // the one that is drawn
   showFromBehind();
-  section.append(...countsOffer(), sheetTools(section.querySelector('figure') !== null));
+  section.append(sheetTools(section.querySelector('figure') !== null));
 }
 
 /** The answer in one plain sentence: with the words that are asked for, where the condition asks for words at places alone. */
@@ -89,13 +90,44 @@ function refutedParts({ steps, leaves }) {
 }
 
 function allowedParts(told, programs, proposition) {
-  const { choices, model, coherence } = told, edges = edgesOf(told), places = proposition === null ? null : wantedWords(proposition);
-  const few = edges.length > MANY_EDGES && places !== null ? askedEdges(programs, edges, places, coherence) : edges;
+  const own = ownWords(told), { model, coherence } = told, choices = own.isShown ? own.choices : told.choices;
+  const executed = edgesOf(told), cycle = forbiddenCycle(executed, programs), edges = [...executed, ...cycle.filter(edge => !executed.includes(edge))];
+  const places = proposition === null ? null : wantedWords(proposition);
+  const asked = edges.length > MANY_EDGES && places !== null ? [...askedEdges(programs, executed, places, coherence), ...cycle] : edges;
+  const few = edges.filter(edge => asked.includes(edge));
   const run = html('button', { type: 'button', 'data-choices': choices, 'data-depth': DEPTH_OF[model] }, 'Run it');
   const relations = html('div', {}, relationList(few));
   const figure = edges.length === 0 ? [] : [drawExecution(programs, edges, few, 'The execution', shown => relations.replaceChildren(relationList(shown)))];
-  return [...passesPart(choices, model), html('p', { class: 'buttons' }, run, ...choicesPart(choices)),
+  return [...passesPart(choices, model, own.said), ...sequentialPart(told), html('p', { class: 'buttons' }, run, ...choicesPart(choices)),
     html('div', { class: 'beside' }, ...figure, html('div', { class: 'told-edges' }, ...executionTables(told), relations))];
+}
+
+/** What one's own run has to do with an answer: whether it is the execution that is shown, its choices, and how a sentence names the shown run. */
+function ownWords(told) {
+  const { test, choices = '', count = 0 } = ownRun.kept ?? {}, made = choices.trim().split(/\s+/).slice(0, count).join(' ');
+  const run = test === byId('test').value && count > 0 ? runOf(made, told.model) : null;
+  if (run === null || run.condition?.holds !== told.asked?.truth) return { isShown: false, said: 'this run' };
+  const isShown = isExecution(run.order, told);
+  return { isShown, choices: made, said: isShown ? 'your run' : 'another run that ends so' };
+}
+
+/** The run of some choices of the test; null where it doesn't end. */
+function runOf(choices, model) {
+  const { status, text } = asked({ command: 'run', json: true, depth: DEPTH_OF[model] }, `${inputOf('sweep')}${DIVIDING_LINE}\n${choices}\n`);
+  return status === Tso.STATUS.good ? tellEntries(readLine(text.trim())) : null;
+}
+
+/** Whether it can be under sequential consistency too: asked in the worker, while the answer of TSO is read. */
+function sequentialPart({ model, asked: wanted }) {
+  if (model !== 'tso' || wanted === null) return [];
+  const place = html('p', { class: 'sequential', role: 'status' });
+  const say = ([{ status, text }]) => {
+    const word = status !== Tso.STATUS.good ? '' : JSON.parse(text).answer === 'allowed' ? 'yes too' : 'no';
+    if (word !== '') putText(place, `Under sequential consistency: ${word}.`);
+  };
+  const { answers } = beginTask(bench.bytes, [{ command: 'why', json: true, model: 'sc', cases: POSSIBLE_CASES }], inputOf('why'));
+  answers.then(say).catch(() => place.remove());
+  return [place];
 }
 
 /** The choices of a run that was found, folded where they are many. */
@@ -103,15 +135,14 @@ function choicesPart(choices) {
   return choices.length < LONG_CHOICES ? [html('span', {}, 'by the choices ', html('code', {}, ...foldedChoices(choices)))] : foldedChoices(choices, 'by ');
 }
 
-/** The loads that passed earlier stores in the run of these choices. */
-function passesPart(choices, model) {
-  const { status, text } = asked({ command: 'run', json: true, depth: DEPTH_OF[model] }, `${inputOf('sweep')}${DIVIDING_LINE}\n${choices}\n`);
-  const order = status === Tso.STATUS.good ? tellEntries(readLine(text.trim())).order : [];
-  const passes = order.filter(entry => entry.passed.length > 0).flatMap(passSentences);
+/** The loads that passed earlier stores in the run of these choices, which a sentence names so. */
+function passesPart(choices, model, named) {
+  const passes = (runOf(choices, model)?.order ?? []).filter(entry => entry.passed.length > 0).flatMap(passSentences);
   if (passes.length === 0 || passes.length > MOST_PASSES) return [];
   const title = passes.length === 1 ? 'A load passes a store' : 'Loads pass stores';
-  const after = ' This is the one order of a program that TSO doesn’t keep. In another run that ends so, other loads may pass.';
-  return [html('p', {}, html('strong', {}, `${title} in this run: `), passes.join(' '), after)];
+  const after = ' This is the one order of a program that TSO doesn’t keep. One load that passes its store is enough. ' +
+    'In another run that ends so, other loads may pass.';
+  return [html('p', {}, html('strong', {}, `${title} in ${named}: `), passes.join(' '), after)];
 }
 
 /** Draws the cycle of a step of the tree. */

@@ -44,7 +44,7 @@ def list_row(bench, folder):
     bench.window.open("file://" + path)
     bench.value(READY)
     bench.wait("drive.isOn")
-    faults += differs("the name of the file", name, "lecture-of-3-tests.html")
+    faults += differs("the name of the file", name, "lecture-of-3-entries.html")
     faults += differs("opened first, at its start, for a lecture", bench.value("[playlist.at, drive.count, isLecture()]"), [0, 0, True])
     opened = [bench.value("testName()")]
     for _ in range(2):
@@ -104,7 +104,7 @@ def updated(bench):
     press(bench, "#saves [data-update-list]")
     faults += differs("the entry", bench.value("[taught.list.length, taught.list[0].name]"), [1, "SB: run, 1 choice"])
     bench.value("takeFromLibrary('MP.litmus')")
-    bench.wait("document.querySelector('#list-bar span').textContent === 'Not in the list of 1 test'")
+    bench.wait("document.querySelector('#list-bar span').textContent === 'Not in the list of 1 entry'")
     return faults + differs("over another test", [bench.text("#listed"), bench.value("document.querySelector('#saves [data-update-list]').hidden")], ["", True])
 
 
@@ -196,7 +196,7 @@ def renamed_row(bench):
     bench.value("(field => { field.value = ' '; field.dispatchEvent(new Event('change')); })(document.querySelector('[data-name-of]'))")
     faults += differs("with no name", bench.value("taught.list[0].name"), "Dekker")
     bench.value("loadText('MP.litmus')")
-    bench.wait("document.querySelector('#list-bar span').textContent === 'Not in the list of 1 test'")
+    bench.wait("document.querySelector('#list-bar span').textContent === 'Not in the list of 1 entry'")
     return faults + safety(bench)
 
 

@@ -100,10 +100,13 @@ def line_row(bench):
 
 
 def exercise_row(bench, folder):
-    """An exercise is a page with the test alone: no choices, no list. Its task is open."""
+    """An exercise is a page with the test and a question: no choices, no list. Its task is open, and why and all outcomes come after an answer."""
     bench.open_fresh()
     bench.value("addToList(); loadText('store-buffering-fenced.litmus'); addToList(); goTo(3)")
-    name, text = saved_page(bench, "SAVES.exercise()")
+    bench.value("SAVES.exercise()")
+    asked = bench.value("byId('exercise-said').value")
+    bench.value("byId('exercise-said').value = 'Is it <so>?'")
+    name, text = saved_page(bench, "saveExercise()")
     path = os.path.join(folder, "exercise.html")
     with open(path, "w") as file:
         file.write(text)
@@ -112,6 +115,14 @@ def exercise_row(bench, folder):
     bench.wait("drive.isOn")
     opened = bench.value("[testName(), drive.words, taught.list.length, byId('task').matches('.met'), byId('about').open]")
     faults = differs("its name", name, "SBF-exercise.html") + differs("opened", opened, ["SBF", [], 0, False, True])
+    faults += differs("asked at first", asked, "Can a run end with 0 in P0's EAX and 0 in P1's EAX?")
+    in_sight = "['find-outcomes', 'ask-why', 'exercise'].map(id => byId(id).getClientRects().length > 0)"
+    said = bench.value("[byId('exercise-asked').textContent, byId('task-said').textContent.includes('Can this be done?'), /^(TSO|SC)=/m.test(byId('test').value)]")
+    faults += differs("said", said, ["Exercise: Is it <so>?", True, False]) + differs("before an answer", bench.value(in_sight), [False, False, True])
+    press(bench, "[data-thought=cannot]")
+    bench.wait("location.hash.includes('thought=cannot')")
+    faults += differs("after it", bench.value(in_sight), [True, True, True])
+    faults += differs("the answer", bench.text("#exercise-thought").startswith("You said: it can’t be."), True)
     bench.window.requests.clear()
     return faults + safety(bench)
 

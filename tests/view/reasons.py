@@ -15,6 +15,7 @@ GALLERY = os.path.join(EXAMPLES, "gallery")
 PLAIN = "X86 plain\n{ x=7; }\n P0          | P1         ;\n MOV EAX,[x] | MOV [x],$1 ;\n"
 # Each test with its model: cycles of each relation, cases of reads and of orders, locked instructions, and executions.
 ASKED = [("MP", "tso"), ("SB+mfences", "tso"), ("SB+xchgs", "tso"), ("INC+xadds", "tso"), ("CoWR", "tso"), ("IRIW", "tso"), ("SB", "sc"), ("SB", "tso"), ("R", "tso"), ("plain", "sc"), ("plain", "tso")]
+LETTERS = {"implied": "lock"}  # of relations that are drawn by another word
 SHIFTED = 1.5  # by how many pixels an end of an edge may lie beside its box
 
 
@@ -129,7 +130,7 @@ def faults_of_cycle(bench, cycle):
     for way, shown in [("all", length), ("first", 1)] + [("next", at) for at in range(2, length + 1)] + [("back", length - 1), ("all", length)]:
         bench.value("document.querySelector('[data-edges=%s]').click()" % way)
         got = bench.value(CYCLE)
-        faults += differs("edges at %d" % shown, got["edges"], [[edge["relation"], at >= shown, at == shown - 1] for at, edge in enumerate(cycle)])
+        faults += differs("edges at %d" % shown, got["edges"], [[LETTERS.get(edge["relation"], edge["relation"]), at >= shown, at == shown - 1] for at, edge in enumerate(cycle)])
         faults += differs("sentences at %d" % shown, [each[1:] for each in got["sentences"]], [[at >= shown, at == shown - 1] for at in range(length)])
         faults += differs("buttons at %d" % shown, got["buttons"], [shown == 1, shown == 1, shown == length, shown == length])
     for (said, _, _), edge in zip(got["sentences"], cycle):
@@ -171,6 +172,26 @@ def allowed_row(bench, folder, name, model):
     ends = {place: left[1][int(place[0])][place[2:]] if ":" in place else left[0][place] for place in told["values"]}
     faults += differs("what the run left", ends, told["values"]) + differs("the sheet beside the run", bench.value("document.querySelector('.reason') !== null"), True)
     return faults + bench.value(OVERHANGING) + safety(bench)
+
+
+def unkept_row(bench):
+    """Where it can be: program order that TSO doesn't keep closes a cycle; under sequential consistency it can't be; one's own run is explained, if it is
+    the execution that is shown."""
+    letters = "[...document.querySelectorAll('.reason [data-letters] text')].map(each => each.textContent).sort()"
+    sequential = "(document.querySelector('.sequential')?.textContent ?? '')"
+    faults = []
+    for name, arrows, said in (("SB", ["fr", "fr", "po, not kept", "po, not kept"], "no"), ("R", ["co", "fr", "po", "po, not kept"], "no"), ("plain", [], "")):
+        bench.open()
+        ask(bench, name, "tso")
+        faults += differs("arrows of " + name, [each for each in bench.value(letters) if arrows], arrows)
+        if said:
+            bench.wait(sequential + " !== ''")
+            faults += differs("the other model", bench.value(sequential), "Under sequential consistency: %s." % said)
+    bench.load(text_of("SB"), "0s 1s 0s 1s 0d 1d")
+    bench.value("goTo(6), askWhy()")
+    bench.wait("!bench.task && document.querySelector('.reason')")
+    own = bench.value("[document.querySelector('.reason').textContent.includes('Loads pass stores in your run: P0 read y'), document.querySelector('.reason [data-choices]').dataset.choices]")
+    return faults + differs("one's own run", own, [True, "0s 1s 0s 1s 0d 1d"]) + safety(bench)
 
 
 # The picture that is saved of the sheet, light and as shown.
@@ -249,4 +270,5 @@ def rows(page, folder):
         row = allowed_row if told_by(page.program, name, model)["answer"] == "allowed" else never_row
         found.append(("why, %s under %s" % (name, model), lambda row=row, name=name, model=model: row(bench, folder, name, model)))
     return found + [("why, after a reload", lambda: address_row(bench)), ("why, at 360 pixels", lambda: narrow_row(bench, folder)),
-                    ("why, saved", lambda: saved_row(bench)), ("why, in a lecture", lambda: lecture_row(bench, folder))]
+                    ("why, saved", lambda: saved_row(bench)),
+                    ("why, the order that isn't kept", lambda: unkept_row(bench)), ("why, in a lecture", lambda: lecture_row(bench, folder))]

@@ -202,6 +202,43 @@ def reload_row(bench):
     return faults + safety(bench)
 
 
+def edited_row(bench):
+    """After an edit the run is shown before the first choice that does nothing any more, and says what was left out."""
+    plain = read(EXAMPLES, "store-buffering.litmus").partition("====\n")[0]
+    bench.open_fresh()
+    bench.fill("test", plain)
+    bench.fill("choices", "0s 1s 0s 1s 0d 1d")
+    bench.fill("test", read(EXAMPLES, "store-buffering-fenced.litmus").partition("====\n")[0])
+    said = "The test is another now: 2 of your 6 choices still do the same, and 0s would do nothing. Left out: 0s 1s 0d 1d."
+    found = bench.value("[drive.count, byId('sentence').textContent.slice(0, %d)]" % len(said))
+    return differs("after the edit", found, [2, said]) + safety(bench)
+
+
+def kept_command_row(bench):
+    """An example is answered by the command that was asked last; its choices are said to be its own; an empty place says what to press."""
+    bench.open_fresh()
+    bench.value("takeFromLibrary('store-buffering.litmus')")
+    faults = [] if "This example comes with" in bench.text("#sentence") else ["it says " + bench.text("#sentence")]
+    bench.value("putCommand('outcomes'); answerNow()")
+    faults += differs("an empty place", bench.text("#states"), "Press “Find all outcomes”.")
+    bench.value("putCommand('why'); takeFromLibrary('store-buffering-fenced.litmus')")
+    bench.wait("!bench.task && document.querySelector('.reason')")
+    found = bench.value("[currentCommand(), document.querySelector('.answer-title').textContent]")
+    return faults + differs("the command", found, ["why", "Why it can't be"]) + safety(bench)
+
+
+def words_row(bench):
+    """What was met says whether it decides the condition; a case with all that one read can read lists it; an asked choice leads to Next."""
+    bench.open_fresh()
+    met = "metSentence({ states: [{ holds: %s }], verdict: null, unfinished: { states: 5 } }, true)"
+    faults = [] if bench.value(met % "true").endswith(" One of them meets the condition: yes, it can be.") else [bench.value(met % "true")]
+    faults += [] if bench.value(met % "false").endswith(" None of them meets the condition, which decides nothing.") else [bench.value(met % "false")]
+    case = bench.value("caseWords([['P4:2 LR w from initial'], ['P4:2 LR w from P0:7 W w=5']])")
+    faults += differs("a case", case, "Whichever of these P4:2 LR w reads, the initial value or what P0:7 W w=5 writes")
+    bench.value("beginLesson('fences', 1); document.querySelector('[data-choice=\"0s\"]').click()")
+    return faults + differs("the focus", bench.value("document.activeElement.id"), "lesson-next") + safety(bench)
+
+
 def rows(page, folder):
     bench = Driver(page)
     return [
@@ -216,4 +253,7 @@ def rows(page, folder):
         ("hints in the page's words", lambda: hints_row(bench)),
         ("a search for MP", lambda: search_row(bench)),
         ("a reload", lambda: reload_row(bench)),
+        ("a run after an edit", lambda: edited_row(bench)),
+        ("an example under why", lambda: kept_command_row(bench)),
+        ("words of answers", lambda: words_row(bench)),
     ]

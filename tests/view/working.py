@@ -259,10 +259,10 @@ def branch_row(bench):
     bench.value("goTo(2)")
     press(bench, "[data-choice='0d']")
     faults = differs("made", bench.value("drive.words"), "0s 1s 0d".split())
-    faults += [] if "after 2: 0s 1s 0d 1d" in bench.text("#branches") else ["it offers " + bench.text("#branches")]
+    faults += [] if "after choice 2: 0s 1s 0d 1d" in bench.text("#branches") else ["it offers " + bench.text("#branches")]
     press(bench, "[data-branch]")
     faults += differs("taken again", bench.value("[drive.words.join(' '), drive.count]"), ["0s 1s 0s 1s 0d 1d", 2])
-    faults += [] if "0s 1s 0d" in bench.text("#branches") or "after 3" in bench.text("#branches") else ["then it offers " + bench.text("#branches")]
+    faults += [] if "0s 1s 0d" in bench.text("#branches") or "after choice 3" in bench.text("#branches") else ["then it offers " + bench.text("#branches")]
     bench.fill("test", test_of("MP"))
     return faults + differs("of another test", bench.value("byId('branches').hidden"), True) + safety(bench)
 

@@ -1,0 +1,78 @@
+'use strict';
+
+// An exercise: a test with a question, saved as a page that holds no answer. Why and all outcomes are there after the reader's own answer.
+
+const MOST_ASKED = 400; // characters of the question
+
+/** The exercise that was opened: its test, what is asked, and what the reader thinks, `can` or `cannot`; null before they say it. */
+const exercise = { test: null, asked: '', thought: null };
+
+const isExercise = () => exercise.test !== null && exercise.test === byId('test').value && lesson.told === null;
+const isUnanswered = () => isExercise() && exercise.thought === null;
+
+/** What an address tells of an exercise: it is of the test there. */
+function putExercise(told) {
+  const asked = told.get('exercise'), thought = told.get('thought'), test = asked === null ? null : told.get('test');
+  Object.assign(exercise, { test, asked: (asked ?? '').slice(0, MOST_ASKED), thought: ['can', 'cannot'].includes(thought) ? thought : null });
+}
+
+/** What an address keeps of it. */
+const exerciseToKeep = () => (isExercise() ? [['exercise', exercise.asked], ...(exercise.thought === null ? [] : [['thought', exercise.thought]])] : []);
+
+/** Shows what is asked, with the two answers; and hides the ways to the answer until one is given. */
+function showExercise() {
+  const isOn = isExercise(), { asked, thought } = exercise;
+  document.documentElement.classList.toggle('unanswered', isUnanswered());
+  byId('exercise').hidden = !isOn;
+  if (!isOn) return;
+  putText(byId('exercise-asked'), asked === '' ? 'Exercise: what do you think?' : `Exercise: ${asked}`);
+  for (const button of byId('exercise').querySelectorAll('button')) {
+    button.disabled = thought !== null;
+    button.setAttribute('aria-pressed', String(button.dataset.thought === thought));
+  }
+  const answered = `You said: ${thought === 'can' ? 'it can be' : 'it can’t be'}. “Why can or can't it be?” tells whether that is so.`;
+  putText(byId('exercise-thought'), thought === null ? 'Try it below, then say what you think.' : answered);
+}
+
+function answerExercise(thought) {
+  exercise.thought = thought;
+  showExercise();
+  if (drive.isOn) showDrive();
+  byId('ask-why').focus();
+}
+
+/** What a test asks, to begin with: by its line `Asks=`, or by its condition. */
+function questionOf(test) {
+  const { proposition } = readTest(test), { Asks } = notesOf(test);
+  if (Asks || proposition === null) return Asks ?? '';
+  const wanted = wantedWords(proposition), end = wanted === null ? proposition : wantedSentence(wanted);
+  return quantifierOf(test) === 'forall' ? `Does each run end with ${end}?` : `Can a run end with ${end}?`;
+}
+
+/** Asks for the wording before it is saved. */
+function beginExercise() {
+  byId('exercise-form').hidden = false;
+  byId('exercise-said').value = questionOf(inputOf('sweep'));
+  byId('exercise-said').focus();
+}
+
+/** A test without the lines that tell what is allowed. */
+const withoutVerdicts = test => test.replace(/^(?:TSO|SC)=.*\n/gm, '');
+
+/** The page with this test, its settings, what stands beside and the question alone: no choices, no list, and nothing asked. */
+function saveExercise() {
+  const isKept = ([name]) => name === 'beside' || name === 'caches', { lessons } = taught, test = withoutVerdicts(byId('test').value);
+  const asked = byId('exercise-said').value.trim().slice(0, MOST_ASKED);
+  const address = new URLSearchParams([['test', test], ...changedSettings(), ...driven().filter(isKept), ['exercise', asked]]).toString();
+  return saveWhole(fileName(`${testName()}-exercise`, '.html'), () => wholePage(address, lessons.length === 0 ? '' : JSON.stringify({ lessons })));
+}
+
+SAVES.exercise = beginExercise;
+byId('exercise-form').addEventListener('submit', event => {
+  event.preventDefault();
+  byId('exercise-form').hidden = true;
+  saveExercise();
+});
+document.addEventListener('click', ({ target }) => {
+  if (target.dataset?.thought !== undefined) answerExercise(target.dataset.thought);
+});
