@@ -98,6 +98,16 @@ def faults_of_scripts():
     return faults
 
 
+def faults_of_grammar():
+    """Node's own answer, whether each of the page's scripts is one."""
+    if shutil.which("node") is None:
+        print("left out, whether the page's scripts are scripts: node isn't there: apt-get install -y nodejs")
+        return []
+    names = sorted(name for name in os.listdir(VIEW) if name.endswith(".js"))
+    asked = [(name, subprocess.run(["node", "--check", os.path.join(VIEW, name)], capture_output=True, text=True)) for name in names]
+    return [name + " is no script: " + done.stderr.strip()[-200:] for name, done in asked if done.returncode != 0]
+
+
 def faults_of_size(script=None):
     """The size of the folder, with this script of a module in place of the one that is there."""
     size = sum(os.path.getsize(os.path.join(VIEW, name)) for name in os.listdir(VIEW))
@@ -253,7 +263,7 @@ def main():
     tally = judging.Tally()
     tally.add("view/", [("texts.js", faults_of_made("texts.js", "page_texts")), ("whole.js", faults_of_made("whole.js", "page_whole")),
                         ("the policy", faults_of_policy()), ("the scripts", faults_of_scripts()),
-                        ("its size", faults_of_size()), ("histories of steps", faults_of_histories(given.program))])
+                        ("their grammar", faults_of_grammar()), ("its size", faults_of_size()), ("histories of steps", faults_of_histories(given.program))])
     if shutil.which("node") is None:
         print("left out, what the page's modules answer: node isn't there: apt-get install -y nodejs")
         return tally.end()
