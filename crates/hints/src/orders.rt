@@ -58,35 +58,11 @@ pub fn from_line_at_fault(text: &[u8], fault: OrderFault) -> &[u8] {
     let OrderFault::BadLine(number) = fault else {
         return &[];
     };
-    let (mut rest, left) = after_blocks(text, number.saturating_sub(1));
-    for _ in 0..left {
+    let mut rest = text;
+    for _ in 1..number {
         rest = after_byte(rest, b'\n');
     }
     rest
-}
-
-/// A text from the block on in which the last of so many lines ends, and how many of them end from there on.
-fn after_blocks(text: &[u8], lines: usize) -> (&[u8], usize) {
-    let mut rest = text;
-    let mut left = lines;
-    while rest.len() > BLOCK {
-        let (block, after) = rest.split_at(BLOCK);
-        let ends = line_ends(block);
-        if ends >= left {
-            return (rest, left);
-        }
-        rest = after;
-        left -= ends;
-    }
-    (rest, left)
-}
-
-/// How many bytes are looked at in one go: many line ends are counted faster than one is found.
-const BLOCK: usize = 64;
-
-/// How many lines end in these bytes.
-fn line_ends(bytes: &[u8]) -> usize {
-    bytes.iter().filter(|byte| **byte == b'\n').count()
 }
 
 fn bad_line(line: &mut Line, unknown_location: bool, entry: &[u8]) {
