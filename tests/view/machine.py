@@ -105,7 +105,7 @@ def refused_row(bench, folder):
     """A refused line is marked while one types, with the hint beside; a word of the choices and a line of an order too."""
     bench.open()
     test = read(EXAMPLES, FIRST).partition(DIVIDING_LINE)[0]
-    damaged = test.replace("MOV EAX,[y]", "LFENCE [y] ")
+    damaged = test.replace("MOV EAX,[y]", "MFENCE [y] ")
     bench.fill("test", damaged)
     _, line, hint = bench.program(damaged, "run")
     number = re.match(r"Refused test line (\d+) ", line).group(1)

