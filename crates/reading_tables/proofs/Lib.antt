@@ -3,7 +3,6 @@ pub mod Makings
 pub mod Addends
 pub mod LeastWritten
 pub mod WriteNumbers
-pub mod Unions
 pub mod OwnFacts
 pub mod Apart
 pub mod MadeValues

@@ -78,18 +78,6 @@ none-among made (x ∷ xs) w l = own (same_event x.write w) l (none-among made x
     own true m rest = absurd (omega (arith, m))
     own false m rest = rest (omega (arith, m))
 
-pub value-among : (made : List Expression) (ws : List Written) (w : Entry) (d : Written) → number_among ws w < length ws
-    → held_of made (get_or ws (number_among ws w) d).value ≡ expression_among (map (written_of made) ws) w
-value-among made [] w d l = absurd (omega (arith, l))
-value-among made (x ∷ xs) w d l = own (same_event x.write w) l (value-among made xs w d)
-  where
-    own : (b : Bool) → (if b then 0 else number_among xs w + 1) < suc (length xs)
-        → (number_among xs w < length xs → held_of made (get_or xs (number_among xs w) d).value ≡ expression_among (map (written_of made) xs) w)
-        → held_of made (get_or (x ∷ xs) (if b then 0 else number_among xs w + 1) d).value
-        ≡ (if b then held_of made x.value else expression_among (map (written_of made) xs) w)
-    own true m rest = refl
-    own false m rest = ap (λ i. held_of made (get_or (x ∷ xs) i d).value) (add-one (number_among xs w)) ∙ rest (omega (arith, m))
-
 pub values-among : (reads : Entry → Values) (made : List Expression) (ws : List Written) (vs : List (Option (Vec ℕ Global))) (w : Entry)
     (d : Option (Vec ℕ Global))
     → map known_of vs ≡ map (λ x. values_of reads (held_of made x.value)) ws ++ (Some (0 ∷ []) ∷ [])

@@ -6,12 +6,10 @@ ghost use Rattle.refutation_laws.specs.Known.{same_event as is_same_event};
 ghost use Rattle.possible_reads.specs.Expressions as expressions;
 ghost use Rattle.possible_reads.specs.Possible as spec;
 ghost use Rattle.reading_tables.specs.Told.{facts_of};
-ghost use Rattle.reading_tables.specs.inner.Told.{all_made, held_of, known_of};
+ghost use Rattle.reading_tables.specs.inner.Told.{known_of};
 ghost use Rattle.reading_tables.specs.inner.Tables.{IsTold, readings_of};
 
-use crate::amounts::{addend_in, load_part_of};
-use crate::expressions::Held;
-use crate::numbers::number_among;
+use crate::amounts::{addend_in, load_part_of, value_among};
 use crate::orders::{is_put_before, last_writes};
 use crate::tables::Told;
 use crate::values::{combined_values, either_of, one};
@@ -19,20 +17,6 @@ use refutations::events::{same_event, writes_to};
 use refutations::values::first_word;
 use std::alloc::Global;
 use tso_terms::{Entry, Kind, Loc, NoMemory, Operator};
-
-/// What this write writes; 0 where there is no such write.
-fn value_written(told: Told<'_>, write: &Entry) -> Held
-    requires { IsTold told }
-    ensures { held_of (all_made told.entry.makings.now) result ≡ expressions.expression_of told.entry.test.now write.now }
-{
-    match told
-        .written
-        .get(number_among(told.written, told.others_first, write))
-    {
-        Some(x) => x.value,
-        None => Held::Number(0),
-    }
-}
 
 /// The number that a write adds to what its load part reads, if it is one.
 fn addend_written(told: Told<'_>, write: &Entry) -> Option<u32>
@@ -42,7 +26,7 @@ fn addend_written(told: Told<'_>, write: &Entry) -> Option<u32>
     addend_in(
         told.makings,
         &load_part_of(write),
-        value_written(told, write),
+        value_among(told.written, write),
     )
 }
 

@@ -67,9 +67,6 @@ fn values_from_any(
     let mut all = Some(Vec::new(alloc));
     let mut left = sources.len();
     while left > 0 {
-        if all.is_none() {
-            return Ok(None);
-        }
         left -= 1;
         all = values_from_or(alloc, told, read, &sources[left], all)?;
     }

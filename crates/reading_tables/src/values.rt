@@ -77,23 +77,20 @@ fn at_most_64(values: Vec<u32>) -> Option<Vec<u32>>
     }
 }
 
-/// The values of both lists, each once; more than 64 are told as any value.
-fn union(us: &[u32], vs: Vec<u32>) -> Result<Option<Vec<u32>>, NoMemory>
-    ensures { IfOk result (λ all. known_of all ≡ spec.at_most_64 (spec.union us.now vs.items)) }
+/// The values of both lists, each once.
+fn union(us: &[u32], vs: Vec<u32>) -> Result<Vec<u32>, NoMemory>
+    ensures { IfOk result (λ all. all.items ≡ spec.union us.now vs.items) }
 {
     let mut all = vs;
     let mut left = us.len();
     while left > 0 {
-        if all.len() > MOST {
-            return Ok(None);
-        }
         left -= 1;
         let value = us[left];
         if !is_among(&all, value) {
             all.insert(0, value)?;
         }
     }
-    Ok(at_most_64(all))
+    Ok(all)
 }
 
 /// One of these, or one of those.
@@ -108,7 +105,7 @@ pub fn either_of(us: &Option<Vec<u32>>, vs: Option<Vec<u32>>) -> Result<Option<V
     let Some(vs) = vs else {
         return Ok(None);
     };
-    union(us, vs)
+    Ok(at_most_64(union(us, vs)?))
 }
 
 /// Those of these values that are among those.
@@ -169,9 +166,6 @@ fn all_combined(
     let mut all = Some(Vec::new(alloc));
     let mut left = us.len();
     while left > 0 {
-        if all.is_none() {
-            return Ok(None);
-        }
         left -= 1;
         let made = at_most_64(combined_with(alloc, operator, us[left], vs)?);
         all = either_of(&made, all)?;
