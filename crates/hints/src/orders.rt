@@ -55,14 +55,25 @@ pub fn first_line(text: &[u8]) -> &[u8] {
 
 /// What stands from the line at fault on, if one is.
 pub fn from_line_at_fault(text: &[u8], fault: OrderFault) -> &[u8] {
-    let OrderFault::BadLine(number) = fault else {
-        return &[];
-    };
-    let mut rest = text;
-    for _ in 1..number {
-        rest = after_byte(rest, b'\n');
+    match fault {
+        OrderFault::BadLine(number) if number > 1 => after_lines(text, number - 1),
+        OrderFault::BadLine(_) => text,
+        _ => &[],
     }
-    rest
+}
+
+/// What comes after so many lines, one or more, or no bytes where the text has no more than these.
+fn after_lines(text: &[u8], lines: usize) -> &[u8] {
+    let mut passed: usize = 0;
+    for at in 0..text.len() {
+        if text[at] == b'\n' {
+            passed = passed.wrapping_add(1);
+            if passed == lines {
+                return &text[at + 1..];
+            }
+        }
+    }
+    &[]
 }
 
 fn bad_line(line: &mut Line, unknown_location: bool, entry: &[u8]) {
