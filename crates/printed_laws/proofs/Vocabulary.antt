@@ -30,7 +30,7 @@ pub use Rattle.printed_laws.specs.Telling.{ReportsTellTheirMachines, SweepsTellT
 pub use Rattle.tso_terms.specs.Litmus.{Litmus, IsTest, are_distinct, IsProgram, KnownLocation, ConstantIsWord}
 pub use Rattle.tso_terms.specs.Names.{is_printable, is_test_name, is_among, is_name, is_location_name, continues_name}
 pub use Rattle.basic_laws.specs.Types.{Bus, Atomic, Split, Reg, Entry, Eax, Ebx, Ecx, Edx, Esi, Edi, Choice, Drain, Core, Loc, Kind, R, W}
-pub use Rattle.basic_laws.specs.Types.{F, LR, LW, Stall, Committed, Buffered, Moved, Asked, Stalled, Instr, Operand, Number, Held, Update}
+pub use Rattle.basic_laws.specs.Types.{F, LR, LW, Stall, Committed, Buffered, Moved, Asked, Stalled, Instr}
 pub use Rattle.basic_laws.specs.Types.{Action, Quantifier, Exists, NotExists, Forall}
 pub use Rattle.protocol_tables.specs.Names.{protocol_name}
 pub use Rattle.protocol_tables.specs.declared.kind.ProtocolKind.{ProtocolKind}
@@ -40,7 +40,7 @@ pub use Rattle.std.proofs.lemmas.List.Elements.{All-head, All-tail, All-contains
 pub use Rattle.std.proofs.lemmas.List.Elements.{All-filter, All-drop, All-append, All-take}
 pub use Rattle.tso_terms.specs.Condition.{Condition, Claim, truth_of}
 pub use Rattle.tso_terms.specs.Registers.{IsWord, AreRegisters, index_of, name_of}
-pub use Rattle.tso_terms.specs.Thread.{value_in, entry, fence, value_of, sum_of, updated}
+pub use Rattle.tso_terms.specs.Thread.{value_in, entry, fence, value_of, updated}
 pub use Rattle.multiprocessor.specs.Keeping.{IsAtMost}
 pub use Rattle.multiprocessor.specs.declared.counts.Counts.{Counts}
 pub use Rattle.order_builder.specs.PrintedOrder.{printed_order, printed_entry, printed_end, printed_lines, letters_of, printed_access, HasWord}

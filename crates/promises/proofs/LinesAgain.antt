@@ -1,6 +1,6 @@
 -- The two lines of each state are in the text of `outcomes`.
 use Rattle.litmus_tokens.specs.declared.instructions.Instructions.{Instructions}
-use Rattle.promises.proofs.Vocabulary.{◌≡◌, ◌∙◌, ℕ, Bool, false, List, [], ◌∷◌, ◌++◌, ◌⊎◌, inl, inr, length, refl, sym, ap, subst, codes}
+use Rattle.promises.proofs.Vocabulary.{◌≡◌, ◌∙◌, ℕ, Bool, false, List, [], ◌∷◌, ◌++◌, inl, inr, length, refl, sym, ap, subst, codes}
 use Rattle.promises.proofs.Vocabulary.{append_assoc, Litmus, Choice, Step, Drain, ProtocolKind, Configuration}
 use Rattle.std.specs.Fmt.{decimal}
 use Rattle.std.specs.List.{AllByRecursion}

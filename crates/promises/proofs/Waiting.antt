@@ -1,13 +1,13 @@
 -- Between the two parts of a locked instruction the accesses of other cores to its line wait.
 use Rattle.promises.proofs.Vocabulary.{arith, ◌≡◌, ◌≢◌, ◌∙◌, ◌==◌, ℕ, Bool, true, false, not, if◌then◌else◌, Result, Ok, Err, OnOk, refl}
-use Rattle.promises.proofs.Vocabulary.{sym, ap, subst, chosen, core_of, effect_of, Split, Choice, Step, Drain, Entry, Bus, Stalled}
+use Rattle.promises.proofs.Vocabulary.{sym, ap, subst, chosen, core_of, effect_of, Choice, Step, Drain, Entry}
 use Rattle.std.proofs.lemmas.Bool.Decides.{nat_tests}
 use Rattle.tso_terms.specs.MemoryAccess.{MemoryAccess, NoAccess, Reads, Writes, Locks, access_of}
-use Rattle.tso_terms.specs.SplitMachine.{HeldBetween, Holder, needs_bus, same_choice, acts, asks, begins, writes_last, split_effect}
+use Rattle.tso_terms.specs.SplitMachine.{HeldBetween, needs_bus, same_choice, acts, asks, begins, writes_last, split_effect}
 use Rattle.tso_terms.specs.EitherBus.{effect_on}
 use Rattle.tso_terms.specs.declared.choice.Stall.TheVariants as stall
-use Rattle.multiprocessor.specs.Caches.{Caches, would_hit, hits_by}
-use Rattle.machine_core.specs.Running.{Running, attempt_on, machine_effect}
+use Rattle.multiprocessor.specs.Caches.{Caches, hits_by}
+use Rattle.machine_core.specs.Running.{Running, attempt_on}
 use Rattle.promises.specs.Locked.{HitsAlone, OwnCoreAloneHits}
 use Rattle.promises.specs.inner.Waiting.{IsAtLine, OthersWaitForTheLine}
 

@@ -1,7 +1,7 @@
 -- The names that the proofs of this crate bring in from definitions and from crates below; each file takes its own from here.
 pub use Rattle.std.proofs.Common.{◌≡◌, ◌<◌, ◌≤◌, ◌⊎◌, inl, inr, ◌==◌, ◌&&◌, ◌+◌, ℕ, Bool, true, false, not, cond, List, Option, Some, None}
 pub use Rattle.std.proofs.Common.{refl, sym, ap, subst, ◌∙◌, arith, if◌then◌else◌, [], ◌∷◌, suc, length, map, zero, slice_index_or, is_some}
-pub use Rattle.std.proofs.Common.{Ordering, Less, Equal, Greater, All, Contains, add-one, slice_set, Ok, ◌*◌}
+pub use Rattle.std.proofs.Common.{Ordering, Less, Equal, Greater, All, Contains, add-one, slice_set, Ok}
 pub use Rattle.std.specs.Prelude.{sum, bytes_eq}
 pub use Rattle.std.specs.Map.{values_of, lookup, keys_of}
 pub use Rattle.tso_terms.specs.FlatMachine.{registers_in, State, chosen, core_of, effect_of, applied, start}
@@ -13,7 +13,7 @@ pub use Rattle.tso_report.specs.Tally.{RunCounts, with_state_counted, with_verdi
 pub use Rattle.machine_runs.specs.Runs.{AnswersFit, run_by, run_under, AnswersFitBy}
 pub use Rattle.machine_runs.specs.Simulation.{verdict}
 pub use Rattle.sweep_runs.specs.Counting.{choices_of, with_one_run, AnswersFitFrom, seeded_run, counts_from}
-pub use Rattle.std.specs.List.{list_any, AllByRecursion}
+pub use Rattle.std.specs.List.{AllByRecursion}
 pub use Rattle.tso_terms.specs.EitherBus.{BusState, effect_on, after_on, unheld, HitsFit}
 pub use Rattle.basic_laws.specs.Types.{Bus, Atomic, Split, Choice}
 pub use Rattle.protocol_tables.specs.Tables.{Table, table_of}

@@ -12,7 +12,7 @@ pub use Rattle.protocol_tables.specs.Tables.{table_of}
 pub use Rattle.protocol_tables.specs.declared.kind.ProtocolKind.{ProtocolKind}
 pub use Rattle.protocol_tables.specs.declared.requests.Transient.TheVariants.{ImD, IsD, SmD}
 pub use Rattle.protocol_tables.specs.declared.state.State.{State}
-pub use Rattle.protocol_tables.specs.declared.state.State.TheVariants.{E, I, M, O, S}
+pub use Rattle.protocol_tables.specs.declared.state.State.TheVariants.{M}
 pub use Rattle.snoop_bus.specs.Asks.{tag_at}
 pub use Rattle.multiprocessor.specs.Configuration.{Configuration}
 pub use Rattle.machine_core.specs.Looking.{bus_holder_of}

@@ -1,6 +1,6 @@
 -- The report of a run is short, and what `check` answers to it.
 use Rattle.tso_cli.proofs.Vocabulary.{Instructions, ◌≡◌, ◌+◌, ◌-◌, ◌*◌, ◌≤◌, ◌^◌, ℕ, suc, Bool, true, false, cond, List, [], ◌∷◌, ◌++◌}
-use Rattle.tso_cli.proofs.Vocabulary.{length, All, slice_index, slice_index_or, drop, length-append, codes, refl, sym, ap, subst, ◌∙◌}
+use Rattle.tso_cli.proofs.Vocabulary.{length, All, slice_index, slice_index_or, length-append, codes, refl, sym, ap, subst, ◌∙◌}
 use Rattle.tso_cli.proofs.Vocabulary.{arith, All-map, All-head, All-tail, All-weaker, SpellsOrder, Litmus, IsTest, IsProgram, AreRegisters}
 use Rattle.tso_cli.proofs.Vocabulary.{made_by, made_from, IsTsoExecution, read_values, registers_from, start, Run, has_ended, stall_count}
 use Rattle.tso_cli.proofs.Vocabulary.{Bus, Instr, Entry, Choice, IsExecution, SpellsTest, Table, table_of, ProtocolKind, Configuration}

@@ -3,7 +3,7 @@ pub use Rattle.std.proofs.Common.{◌≡◌, ◌<◌, ◌≤◌, ◌⊎◌, inl,
 pub use Rattle.std.proofs.Common.{IfSome, is_none, All, Contains, refl, sym, ap, subst, ◌∙◌, arith, ◌^◌, length, ◌≢◌, ◌*◌, IsTrue, [], ◌∷◌}
 pub use Rattle.std.proofs.Common.{◌++◌, map, get_or, slice_get, slice_index_or, take, length-take, ◌==◌, nat_eq, codes, drop, replicate}
 pub use Rattle.std.proofs.Common.{◌-◌, slice_index, length-append, append_assoc, append-nil, is_some, Ordering, Less, Equal, Greater}
-pub use Rattle.std.proofs.Common.{string_bytes, Ok, Result, Err, IfOk, OnOk, length-drop, drop-cons, add-one, rules}
+pub use Rattle.std.proofs.Common.{string_bytes, Ok, Result, Err, IfOk, OnOk, length-drop, rules}
 pub use Rattle.std.proofs.lemmas.Slice.Eq.{bytes_eq-Decides, starts_is}
 pub use Rattle.std.specs.Option.{option_map, ForSome, unwrap_or}
 pub use Rattle.std.specs.Map.{keys_of, lookup}
@@ -56,13 +56,13 @@ pub use Rattle.command_line.specs.Limits.{IsDepth, IsWithinLimits}
 pub use Rattle.machine_runs.specs.declared.driving.Ending.{Ending}
 pub use Rattle.machine_runs.specs.declared.driving.Ending.TheVariants.{Ended, Unfinished}
 pub use Rattle.tso_cli.specs.declared.answer.Status.TheVariants.{Good, Refused, Unended, Invalid}
-pub use Rattle.std.proofs.lemmas.List.{length-map, drop-drop, nil_from_length}
+pub use Rattle.std.proofs.lemmas.List.{length-map}
 pub use Rattle.tso_report.specs.declared.named.Named.{Named}
 pub use Rattle.tso_report.specs.ShownNames.{names_shown, values_at}
 pub use Rattle.search_report.specs.Outcomes.{Outcome, shown_values, held_in, failed_in, is_met_in, true_in, outcomes_line, state_line}
 pub use Rattle.search_report.specs.Outcomes.{by_line, outcome_lines, observation_line, true_line, condition_lines}
 pub use Rattle.command_line.specs.Search.{Search}
-pub use Rattle.tso_cli.specs.Outcomes.{AreAllOutcomes, AreSomeOutcomes, IsOutcomesAnswer, found, is_claimed_of, too_many}
+pub use Rattle.tso_cli.specs.Outcomes.{AreAllOutcomes, IsOutcomesAnswer, found, is_claimed_of, too_many}
 pub use Rattle.tso_cli.specs.OutcomesHeadline.{HeadlineOfOutcomes, all}
 pub use Rattle.refutation_laws.specs.Models.{IsExecutionOf, depth_of}
 pub use Rattle.command_line.specs.Explanation.{Explanation}
@@ -71,7 +71,7 @@ pub use Rattle.tso_cli.specs.WhyHeadline.{PrintsRefutation, PrintsExecutionOf, H
 pub use Rattle.litmus_reader.specs.Spelling.{SpellsTest}
 pub use Rattle.litmus_tokens.specs.declared.instructions.Instructions.{Instructions}
 pub use Rattle.search_report.specs.Verdict.{verdict_line, outcomes_verdict_value}
-pub use Rattle.search_report.specs.MetOutcomes.{PrintsMet, unfinished_search_in}
+pub use Rattle.search_report.specs.MetOutcomes.{PrintsMet}
 pub use Rattle.search_report.specs.PrintedOutcomes.{outcomes_in, PrintsOutcomes}
 pub use Rattle.search_report.specs.Laws.{OutcomesAreAlike, OutcomesOfTheSameValuesAreAlike}
 pub use Rattle.tso_terms.specs.Standing.{StandsIn}

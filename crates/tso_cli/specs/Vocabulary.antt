@@ -49,7 +49,6 @@ pub use Rattle.search_report.specs.Verdict.{is_as_claimed}
 pub use Rattle.search_report.specs.PrintedReasons.{ShowsExecution, unfinished_cases_in}
 pub use Rattle.search_report.specs.RefutationReports.{refutation_in}
 pub use Rattle.command_line.specs.Explanation.{Explanation}
-pub use Rattle.command_line.specs.Instructions.{instructions_of}
 pub use Rattle.command_line.specs.Search.{Search}
 pub use Rattle.command_line.specs.declared.settings.Settings.{Settings}
 pub use Rattle.counted_io.specs.Limits.{longest_input}

@@ -2,14 +2,12 @@
 use Rattle.std.specs.Prelude.{List, ℕ, [], ◌∷◌, ◌++◌, Some, codes}
 use Rattle.basic_laws.specs.Types.{Choice, Exists, NotExists, Quantifier, W}
 use Rattle.tso_terms.specs.Condition.{Claim}
-use Rattle.tso_terms.specs.Thread.{entry}
 use Rattle.tso_terms.specs.Litmus.{Litmus}
 use Rattle.order_builder.specs.PrintedOrder.{printed_lines}
-use Rattle.tso_terms.specs.Examples.{sb, n6, loc_x}
+use Rattle.tso_terms.specs.Examples.{sb, n6}
 use Rattle.tso_terms.specs.FlatMachine.{step, drain}
 use Rattle.relational_model.specs.WorkedCandidates.{passing, between}
-use Rattle.refutation_laws.specs.Refutations.{Node, ComesFirst}
-use Rattle.refutation_laws.specs.Worked.{both_zero, passed, other_first, n6_refuted, lost}
+use Rattle.refutation_laws.specs.Worked.{both_zero, passed, other_first, lost}
 
 -- the test with a condition
 abbrev pub asking : Litmus → Quantifier → Claim → Litmus

@@ -1,8 +1,8 @@
 -- A JSON object with a member for each location tells the words, wherever the bytes of the names belong.
 use Rattle.printed_laws.proofs.Vocabulary.{◌≡◌, ◌≢◌, ℕ, Bool, true, false, not, cond, ◌||◌, List, [], ◌∷◌, length, All, refl, sym, ap}
-use Rattle.printed_laws.proofs.Vocabulary.{subst, ◌∙◌, arith, decimal, bytes_eq, nat_cmp, match_ordering, is_eq, slice_cmp, Ordering, Less}
-use Rattle.printed_laws.proofs.Vocabulary.{Equal, Greater, and_parts, decimal_injective, All-head, All-tail, Members, no_members, member}
-use Rattle.printed_laws.proofs.Vocabulary.{put, outline, members_outline, are_distinct, is_among, IsWord, bytes_eq-Decides, count}
+use Rattle.printed_laws.proofs.Vocabulary.{subst, ◌∙◌, arith, decimal, bytes_eq}
+use Rattle.printed_laws.proofs.Vocabulary.{and_parts, decimal_injective, All-head, All-tail, Members}
+use Rattle.printed_laws.proofs.Vocabulary.{put, members_outline, are_distinct, is_among, IsWord, bytes_eq-Decides, count}
 use Rattle.printed_laws.proofs.Vocabulary.{memory_members}
 use Rattle.json.specs.Json as json
 use Rattle.printed_laws.proofs.json.JsonKeys.{found, own-value, other-value}

@@ -1,11 +1,10 @@
 -- The verdict that is at the end of what `outcomes` and `why` print.
 use Rattle.printed_laws.proofs.Vocabulary.{◌≡◌, ℕ, Bool, true, false, List, [], ◌∷◌, ◌++◌, refl, sym, ap, subst, length, Some, decimal}
-use Rattle.printed_laws.proofs.Vocabulary.{append_assoc, string, no_members, member, compact_text, codes, line, test_line, Litmus}
-use Rattle.printed_laws.proofs.Vocabulary.{Condition, Named, frequency, escape_byte, Outcome, outcomes_line, outcome_lines, condition_lines}
+use Rattle.printed_laws.proofs.Vocabulary.{append_assoc, no_members, member, codes, line, test_line, Litmus}
+use Rattle.printed_laws.proofs.Vocabulary.{Condition, Named, frequency, Outcome, outcomes_line, outcome_lines, condition_lines}
 use Rattle.printed_laws.proofs.Vocabulary.{held_in, failed_in, true_in, is_met_in, printed_numbers, observation_line, true_line}
 use Rattle.printed_laws.proofs.Vocabulary.{verdict_word, is_well, outcomes_verdict_value, verdict_line, EndsInNumbers, outcomes_in}
 use Rattle.printed_laws.proofs.Vocabulary.{outcomes_value}
-use Rattle.printed_laws.proofs.texts.Digits.{both-other, number-in-line}
 use Rattle.printed_laws.proofs.texts.Endings.{EndsIn, behind, with-more, verdict_tail, object-ends}
 
 -- ---- a verdict behind a line

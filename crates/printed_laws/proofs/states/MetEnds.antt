@@ -3,11 +3,10 @@ use Rattle.printed_laws.proofs.Vocabulary.{◌≡◌, ◌∙◌, ℕ, Bool, true
 use Rattle.printed_laws.proofs.Vocabulary.{list_all, append_assoc, append-nil, append_cancel_right, no_members, member, codes, line, Litmus}
 use Rattle.printed_laws.proofs.Vocabulary.{Condition, Named, Choice, printed_values, printed_after, shown_values, Outcome, outcome_lines}
 use Rattle.printed_laws.proofs.Vocabulary.{printed_numbers, is_met_in, verdict_word, is_well, unfinished_search_in, EndsInWord}
-use Rattle.serde_json.specs.Data.{null}
 use Rattle.search_report.specs.MetOutcomes.{unfinished_outcomes_line, met_line, met_text, met_value, met_json, decided_line, decided_value}
 use Rattle.printed_laws.proofs.texts.Cutting.{unlike}
 use Rattle.printed_laws.proofs.texts.Digits.{is_other, both-other, number-in-line, last-cut}
-use Rattle.printed_laws.proofs.texts.Endings.{EndsIn, behind, with-more, line-feed, verdict_tail, no-verdict-null, object-ends, object-ends-undecided}
+use Rattle.printed_laws.proofs.texts.Endings.{EndsIn, behind, line-feed, verdict_tail, no-verdict-null, object-ends, object-ends-undecided}
 use Rattle.printed_laws.proofs.states.LastLines.{behind-feed}
 use Rattle.printed_laws.proofs.states.OutcomeLines.{choices-in-line}
 

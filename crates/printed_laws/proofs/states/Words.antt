@@ -9,7 +9,7 @@ use Rattle.printed_laws.proofs.Vocabulary.{unfinished_search_in, EndsInWord, Has
 use Rattle.search_report.specs.MetOutcomes.{met_json}
 use Rattle.printed_laws.proofs.states.MetEnds.{no-word, numbers-in-line, said-flat, verdict-in-line}
 use Rattle.printed_laws.proofs.texts.Cutting.{Stops, run-cut}
-use Rattle.printed_laws.proofs.texts.Digits.{all-digits, is_other, number-no-space, number-in-line, both-other, there, last-cut}
+use Rattle.printed_laws.proofs.texts.Digits.{all-digits, is_other, number-no-space, both-other, last-cut}
 
 -- ---- lines
 

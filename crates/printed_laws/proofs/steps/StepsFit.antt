@@ -1,16 +1,16 @@
 -- Each step of a trace fits its test.
 use Rattle.printed_laws.proofs.Vocabulary.{◌≡◌, ℕ, ◌<◌, Bool, true, false, List, [], ◌∷◌, ◌++◌, drop, subst, ◌∙◌, zero, suc, ◌≤◌, Option}
 use Rattle.printed_laws.proofs.Vocabulary.{arith, ◌+◌, length, All, Some, None, ◌==◌, if◌then◌else◌, IfSome, slice_get, length-replicate}
-use Rattle.printed_laws.proofs.Vocabulary.{Litmus, IsTest, Bus, Atomic, Split, ProtocolKind, Configuration, IsConfigurationWithinLimits}
+use Rattle.printed_laws.proofs.Vocabulary.{Litmus, IsTest, ProtocolKind, Configuration, IsConfigurationWithinLimits}
 use Rattle.printed_laws.proofs.Vocabulary.{All-head, All-tail, All-weaker, All-cons, All-nil, All-drop, All-append, IsWord, index_of, Entry}
 use Rattle.printed_laws.proofs.Vocabulary.{HasWord, IsEntryFor, has_ended, CoresExist, Choice, Drain, chosen, program_of, core_of, Core}
-use Rattle.printed_laws.proofs.Vocabulary.{IsAt, AreStoresKnown, LineRequest, StateChange, Asked, TraceStepFits, action_of, access_of}
-use Rattle.printed_laws.proofs.Vocabulary.{Instr, Action, Move, access-known, Table, table_of, Awaited, is_awaited, Running, new_machine}
+use Rattle.printed_laws.proofs.Vocabulary.{IsAt, AreStoresKnown, StateChange, TraceStepFits, action_of}
+use Rattle.printed_laws.proofs.Vocabulary.{Instr, Action, Move, access-known, Table, table_of, Running, new_machine}
 use Rattle.printed_laws.proofs.Vocabulary.{machine_after, moved_by, moved_at, moved_from, buffer_if_changed, placed, line_states}
 use Rattle.printed_laws.proofs.Vocabulary.{placed_states_from, number_of_lines, states_of, number_of_state, change_of, changes_in}
 use Rattle.printed_laws.proofs.Vocabulary.{steps_from, trace_under, trace_step_of, IsTraced, traced-first, step-known, traced-next}
 use Rattle.printed_laws.proofs.Vocabulary.{attempt_on, machine_effect, machine_use}
-use Rattle.basic_laws.specs.Types.{Step, Outcome, Change, Keep, Set, Swap}
+use Rattle.basic_laws.specs.Types.{Step, Change, Keep, Set, Swap}
 use Rattle.trace_report.specs.Steps.{given_by_move}
 use Rattle.printed_laws.specs.Traces.{MovesWords}
 use Rattle.multiprocessor.specs.Statistics.{no_counts}

@@ -1,4 +1,4 @@
-use Rattle.promises.proofs.Vocabulary.{◌≤◌, ◌++◌, ℕ, List, ap, arith, inl, inr, length, length-append}
+use Rattle.promises.proofs.Vocabulary.{◌≤◌, ℕ, List, ap, arith, inl, inr, length, length-append}
 use Rattle.tso_cli.specs.Hints.{IsHintWithRuns}
 use Rattle.promises.proofs.texts.hints_and_tests.a_line_of_runs_says_choices.Goals as goal
 
