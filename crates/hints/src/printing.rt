@@ -39,8 +39,9 @@ fn string_of(alloc: Global, bytes: &[u8]) -> Result<String, AllocError>
 fn printable_words(alloc: Global, words: &[u8]) -> Result<Vec<u8>, AllocError>
     ensures { IfOk result (λ v. v.items ≡ map shown_byte (take most_hint_bytes words.now)) }
 {
-    let mut shown = Vec::new(alloc);
-    for at in 0..words.len().min(249) {
+    let count = words.len().min(249);
+    let mut shown = Vec::with_capacity(alloc, count)?;
+    for at in 0..count {
         shown.push(as_shown(words[at]))?;
     }
     Ok(shown)

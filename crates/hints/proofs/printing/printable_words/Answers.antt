@@ -5,7 +5,7 @@ use Rattle.hints.proofs.printing.printable_words.Goals as goal
 
 pub returns : goal.returns
 returns c =
-    let least = c.min-at-end.ensures in
+    let least = c.min-count.ensures in
     let within = c.loop-at.auto.at-end in
     let past = c.loop-at-test.false in
     c.loop-at.invariant
