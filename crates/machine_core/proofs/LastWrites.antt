@@ -1,6 +1,6 @@
 -- The store part of a locked instruction on a split bus.
 use Rattle.machine_core.proofs.Vocabulary.{◌≡◌, ◌≢◌, ℕ, zero, suc, false, List, [], ◌∷◌, None, slice_index, slice_set, refl, sym, ap, ◌∙◌}
-use Rattle.machine_core.proofs.Vocabulary.{subst, set-get_or, Litmus, entry, value_in, updated, CoreState, Effect, advanced_with, effect_by}
+use Rattle.machine_core.proofs.Vocabulary.{subst, set-get_or, Litmus, entry, updated, CoreState, Effect, effect_by}
 use Rattle.machine_core.proofs.Vocabulary.{effect_of, core_of, MemoryAccess, NoAccess, Locks, store_access, load_access, locked_access}
 use Rattle.machine_core.proofs.Vocabulary.{access_by, access_of, Free, HeldBetween, BusEffect, acts, as_read, after_first, Split, Reg, Loc}
 use Rattle.machine_core.proofs.Vocabulary.{Update, Action, Store, Load, Lock, Entry, LW, Step, Committed, HasRead, HolderFits, BusModel}

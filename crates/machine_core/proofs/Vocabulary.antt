@@ -47,7 +47,7 @@ pub use Rattle.snoop_bus.specs.CacheContents.{Accessed}
 pub use Rattle.cache_set.specs.CacheTags.{TagSets, tags_at, tag_in, at_line, sets_of, at_core, at_others, requested, used_by, filled_by, is_held}
 pub use Rattle.multiprocessor.specs.Statistics.{no_counts, Statistics, no_statistics, statistics_with, statistics_after, with_use_counted}
 pub use Rattle.machine_core.specs.inner.Keeping.{statistics_in}
-pub use Rattle.snoop_bus.specs.inner.Accesses.{StandsAlone, memory_words_of}
+pub use Rattle.snoop_bus.specs.inner.Accesses.{StandsAlone}
 pub use Rattle.tso_laws.specs.BusChoices.{IsPossibleOn}
 pub use Rattle.tso_laws.specs.Between.{IsAnswered, ArePaired}
 pub use Rattle.machine_core.specs.Running.{Running, machine_after, AnswerFits, restarted, machine_effect, machine_use}

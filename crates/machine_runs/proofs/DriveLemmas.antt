@@ -1,8 +1,8 @@
 -- A machine that is driven through choices: how far it has come, and where it stops.
 use Rattle.machine_runs.proofs.Vocabulary.{◌≡◌, ◌⊎◌, inl, inr, ◌+◌, ℕ, true, false, List, [], ◌∷◌, ◌++◌, length, append-nil, append_assoc}
 use Rattle.machine_runs.proofs.Vocabulary.{refl, sym, ap, subst, ◌∙◌, arith, Litmus, has_ended, stall_count, Holder, Free, Attempt}
-use Rattle.machine_runs.proofs.Vocabulary.{BusState, BusRun, effect_on, after_on, run_on, then_on, resting_on, HitFits, HitsFit, Bus}
-use Rattle.machine_runs.proofs.Vocabulary.{Choice, Entry, EndOn, left_by, ChangesNothingOn, StopsAtTheEndOn, Running, attempt_on}
+use Rattle.machine_runs.proofs.Vocabulary.{BusState, BusRun, after_on, run_on, then_on, resting_on, HitFits, HitsFit, Bus}
+use Rattle.machine_runs.proofs.Vocabulary.{Choice, Entry, EndOn, left_by, Running, attempt_on}
 use Rattle.machine_runs.proofs.Vocabulary.{machine_effect, machine_after, AnswerFits, Statistics, statistics_from, answers_of, bus_run_of}
 use Rattle.machine_runs.proofs.Vocabulary.{HaveFittingAnswers, Drives}
 use Rattle.basic_laws.specs.Types.{Outcome, Committed, Buffered, Moved, Asked, Stalled, Stall}

@@ -2,8 +2,8 @@
 use Rattle.machine_runs.proofs.Vocabulary.{◌≡◌, ◌<◌, ◌-◌, ◌+◌, ◌*◌, ℕ, zero, suc, Bool, true, false, List, [], ◌∷◌, length, All, slice_get}
 use Rattle.machine_runs.proofs.Vocabulary.{slice_index_or, Option, Some, None, is_some, arith, ap, sym, ◌∙◌, refl, subst, Litmus}
 use Rattle.machine_runs.proofs.Vocabulary.{KeepsAllOrder, Condition, truth_of, State, registers_in, Run, has_ended, Attempt, BusState}
-use Rattle.machine_runs.proofs.Vocabulary.{run_on, choices_in, put_together, together, Bus, Atomic, Choice, Entry, End, EndOn}
-use Rattle.machine_runs.proofs.Vocabulary.{StopsAtTheEndOn, Table, Counts, Configuration, Statistics, counts_of, Running, new_machine}
+use Rattle.machine_runs.proofs.Vocabulary.{choices_in, put_together, together, Atomic, Choice, Entry, End, EndOn}
+use Rattle.machine_runs.proofs.Vocabulary.{Table, Counts, Configuration, Statistics, counts_of, Running, new_machine}
 use Rattle.machine_runs.proofs.Vocabulary.{ShownRun, run_by, AnswersFitBy, Ending, Ended, Unfinished, shown_of, verdict, IsEndingOf}
 use Rattle.machine_runs.proofs.Vocabulary.{IsCounted, HasAllOrder, HasEnded, drains, Drives}
 use Rattle.std.specs.Option.{option_map}

@@ -1,7 +1,7 @@
 -- The names that the proofs of this crate bring in from definitions and from crates below; each file takes its own from here.
 pub use Rattle.std.proofs.Common.{◌≡◌, ◌<◌, ◌-◌, ◌+◌, ◌*◌, ℕ, zero, suc, Bool, true, false, List, [], ◌∷◌, length, All, slice_get}
-pub use Rattle.std.proofs.Common.{slice_index_or, Option, Some, None, is_some, Result, Ok, Err, IfOk, OnOk, arith, ap, sym, ◌∙◌, refl}
-pub use Rattle.std.proofs.Common.{subst, ◌++◌, append-nil, ◌⊎◌, inl, inr, append_assoc, ◌≤◌, cond, length-set}
+pub use Rattle.std.proofs.Common.{slice_index_or, Option, Some, None, is_some, arith, ap, sym, ◌∙◌, refl}
+pub use Rattle.std.proofs.Common.{subst, ◌++◌, append-nil, ◌⊎◌, inl, inr, append_assoc, ◌≤◌, cond}
 pub use Rattle.tso_terms.specs.Litmus.{Litmus, IsTest}
 pub use Rattle.tso_terms.specs.SequentialConsistency.{KeepsAllOrder}
 pub use Rattle.tso_terms.specs.Condition.{Condition, truth_of, NamesExist, claim_of, condition_of}
@@ -17,12 +17,12 @@ pub use Rattle.tso_laws.specs.inner.BusRuns.{StopsAtTheEndOn, ChangesNothingOn}
 pub use Rattle.protocol_tables.specs.Tables.{Table, table_of}
 pub use Rattle.multiprocessor.specs.declared.counts.Counts.{Counts}
 pub use Rattle.multiprocessor.specs.Configuration.{Configuration}
-pub use Rattle.multiprocessor.specs.Statistics.{Statistics, counts_of, statistics_from, no_counts, with_access, with_write_back}
-pub use Rattle.multiprocessor.specs.Statistics.{with_forward, with_flush, counts_at_core, flush_counted, with_use_counted, statistics_after}
+pub use Rattle.multiprocessor.specs.Statistics.{Statistics, counts_of, statistics_from, no_counts}
+pub use Rattle.multiprocessor.specs.Statistics.{statistics_after}
 pub use Rattle.multiprocessor.specs.Statistics.{no_statistics}
 pub use Rattle.machine_core.specs.Running.{Running, new_machine, attempt_on, machine_effect, machine_after, AnswerFits}
 pub use Rattle.tso_report.specs.Shown.{ShownRun, shown_run}
-pub use Rattle.machine_runs.specs.Runs.{run_by, AnswersFitBy, counts_by, run_under, AnswersFit}
+pub use Rattle.machine_runs.specs.Runs.{run_by, AnswersFitBy, counts_by, run_under}
 pub use Rattle.machine_runs.specs.declared.driving.Ending.{Ending}
 pub use Rattle.machine_runs.specs.declared.driving.Ending.TheVariants.{Ended, Unfinished}
 pub use Rattle.machine_runs.specs.Simulation.{shown_of, verdict, IsEndingOf, IsCounted, HasAllOrder, HasEnded, drains, FitsEnding, HasCounts}

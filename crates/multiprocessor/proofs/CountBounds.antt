@@ -4,7 +4,7 @@ use Rattle.snoop_bus.specs.declared.access.Access.{Access}
 use Rattle.multiprocessor.proofs.Vocabulary.{◌≡◌, ◌≢◌, ◌≤◌, ◌<◌, ◌+◌, ◌-◌, ◌⊎◌, inl, inr, ℕ, zero, suc, Bool, true, false, nat_lt}
 use Rattle.multiprocessor.proofs.Vocabulary.{if◌then◌else◌, List, [], ◌∷◌, ◌++◌, length, length-append, length-set, slice_get, slice_index}
 use Rattle.multiprocessor.proofs.Vocabulary.{slice_index_or, Option, Some, None, All, refl, ap, ◌∙◌, arith, All-set, most_instructions}
-use Rattle.multiprocessor.proofs.Vocabulary.{Litmus, IsTest, action_of, entry, value_in, with_value, value_of, updated, CoreState, State}
+use Rattle.multiprocessor.proofs.Vocabulary.{Litmus, IsTest, action_of, entry, value_of, updated, CoreState, State}
 use Rattle.multiprocessor.proofs.Vocabulary.{Effect, stalled, stored, effect_by, step_of, effect_of, chosen, core_of, program_of, Reg, Core}
 use Rattle.multiprocessor.proofs.Vocabulary.{Loc, Instr, Action, Store, Load, Fence, Lock, Entry, W, Choice, Step, Drain, Outcome}
 use Rattle.multiprocessor.proofs.Vocabulary.{Committed, Buffered, Stalled, Counts, CacheUse, Unused, Forwarded, Asked, Through, no_counts}

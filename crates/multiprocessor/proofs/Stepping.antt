@@ -3,7 +3,7 @@ use Rattle.std.specs.Prelude.{Option}
 use Rattle.tso_terms.specs.Thread.{changed}
 use Rattle.basic_laws.specs.Types.{Change}
 use Rattle.multiprocessor.proofs.Vocabulary.{◌≡◌, ◌<◌, ℕ, Result, IfOk, List, [], ◌∷◌, length, refl, sym, ap, subst, KnownLocation}
-use Rattle.multiprocessor.proofs.Vocabulary.{action_of, value_of, with_value, NoAccess, store_access, locked_access, Core, Loc, Instr, Reg}
+use Rattle.multiprocessor.proofs.Vocabulary.{action_of, value_of, NoAccess, store_access, locked_access, Core, Loc, Instr, Reg}
 use Rattle.multiprocessor.proofs.Vocabulary.{Action, Store, Load, Move, Fence, Lock, Update, Entry, Outcome, Moved, NoMemory, Noted}
 use Rattle.multiprocessor.proofs.Vocabulary.{BusModel, words_of, cores_of, Unused, Processor, Way, Whole, Turn, pending_in, own_access}
 use Rattle.multiprocessor.proofs.Vocabulary.{action_by, step_by, effect_of_store, effect_of_fence, effect_of_lock, at_next, ChoiceAnswer}

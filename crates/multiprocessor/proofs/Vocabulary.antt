@@ -10,13 +10,12 @@ pub use Rattle.std.specs.Option.{option_map}
 pub use Rattle.std.specs.List.{last_or, list_any, sum_by}
 pub use Rattle.tso_terms.specs.ProgramOrder.{writes_to}
 pub use Rattle.tso_terms.specs.FlatMachine.{CoreState, Effect, stalled, memory_after, stored, State, chosen, core_of, idle, effect_by}
-pub use Rattle.tso_terms.specs.FlatMachine.{step_of, effect_of, program_of, advanced_with, started, is_none_pending}
+pub use Rattle.tso_terms.specs.FlatMachine.{step_of, effect_of, program_of, started, is_none_pending}
 pub use Rattle.basic_laws.specs.Types.{Reg, Loc, Update, Entry, Core, Outcome, Committed, Stalled, Buffered, Moved, W, R, F, LR, LW}
 pub use Rattle.basic_laws.specs.Types.{NoMemory, Split, Atomic, Choice, Bus, Instr, Action, Step, Drain, Kind}
 pub use Rattle.store_buffer.specs.declared.Pending.{Pending}
 pub use Rattle.store_buffer.specs.inner.Newest.{newest_for}
 pub use Rattle.snoop_bus.specs.declared.access.AccessReport.{AccessReport}
-pub use Rattle.snoop_bus.specs.declared.access.BusRequest.{BusRequest}
 pub use Rattle.snoop_bus.specs.Bus.{BusModel, words_of, IsSameMachine, cores_of, IsFree}
 pub use Rattle.snoop_bus.specs.Accesses.{LoadsAt, WritesAt, CompletesAt, awaited_of, IsCurrentWord}
 pub use Rattle.multiprocessor.specs.declared.accesses.CacheUse.{CacheUse}

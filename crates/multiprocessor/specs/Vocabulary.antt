@@ -1,6 +1,6 @@
 -- The words of the crates below that the definitions of this crate use, in one place: each file takes its own from here.
 pub use Rattle.tso_terms.specs.EitherBus.{after_on, BusState, effect_on, unheld}
-pub use Rattle.tso_terms.specs.FlatMachine.{applied, chosen, core_of, CoreState, drain_of, Effect, effect_by, effect_of, fenced}
+pub use Rattle.tso_terms.specs.FlatMachine.{chosen, core_of, CoreState, drain_of, Effect, effect_by, fenced}
 pub use Rattle.tso_terms.specs.FlatMachine.{memory_after, start, State, stored}
 pub use Rattle.tso_terms.specs.Limits.{most_cores, most_depth, most_instructions}
 pub use Rattle.tso_terms.specs.Litmus.{IsTest, Litmus}
@@ -18,4 +18,3 @@ pub use Rattle.snoop_bus.specs.Asks.{Awaited, tag_at}
 pub use Rattle.snoop_bus.specs.Bus.{BusModel, cores_of, holder_of, IsFree, words_of}
 pub use Rattle.cache_set.specs.Geometry.{Geometry}
 pub use Rattle.snoop_bus.specs.Rows.{table_of_rows, TableColumns}
-pub use Rattle.snoop_bus.specs.declared.holding.Stage.TheVariants.{Locked}

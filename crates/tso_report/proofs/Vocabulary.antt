@@ -1,7 +1,7 @@
 -- The names that the proofs of this crate bring in from definitions and from crates below; each file takes its own from here.
 pub use Rattle.std.proofs.Common.{◌≡◌, ℕ, min, ◌<◌, ◌^◌, Bool, true, not, eqb, List, [], ◌∷◌, ◌++◌, get_or, All, inl, inr, refl, ap, ◌∙◌}
 pub use Rattle.std.proofs.Common.{arith, rules, ◌+◌, ◌-◌, ◌*◌, ◌≤◌, zero, suc, false, nat_le, ◌&&◌, length, map, slice_index}
-pub use Rattle.std.proofs.Common.{slice_index_or, Option, Some, None, length-append, codes, append-nil, ◌⊎◌, sym, ◌||◌, filter, subst}
+pub use Rattle.std.proofs.Common.{slice_index_or, Option, Some, None, length-append, codes, append-nil, sym, ◌||◌, filter, subst}
 pub use Rattle.std.proofs.Common.{append_assoc, cond, sum, Vec, unwrap_or, option_map, ◌≢◌, drop, string_bytes, is_some, IfOk}
 pub use Rattle.std.specs.Fmt.{decimal}
 pub use Rattle.std.specs.List.{list_all, AllByRecursion, flat_map}
@@ -17,7 +17,7 @@ pub use Rattle.order_builder.specs.Spelling.{IsLineBeforeOrder, IsOrderFor, Spel
 pub use Rattle.tso_report.specs.Shown.{ShownRun, shown_run}
 pub use Rattle.protocol_tables.specs.Names.{protocol_name}
 pub use Rattle.protocol_tables.specs.declared.kind.ProtocolKind.{ProtocolKind}
-pub use Rattle.protocol_tables.specs.declared.kind.ProtocolKind.TheVariants.{Msi, Mesi, Moesi, Mosi}
+pub use Rattle.protocol_tables.specs.declared.kind.ProtocolKind.TheVariants.{Msi}
 pub use Rattle.cache_set.specs.Geometry.{Geometry, IsLineSize, IsShapeWithinLimits}
 pub use Rattle.multiprocessor.specs.Configuration.{Configuration, IsConfigurationWithinLimits}
 pub use Rattle.tso_report.specs.Report.{report, line, test_line, shape_text, bus_text, register_lines, memory_line, condition_line}
@@ -27,9 +27,9 @@ unfoldable pub use Rattle.tso_report.specs.Report.{all_registers}
 pub use Rattle.tso_terms.specs.Condition.{Condition}
 pub use Rattle.multiprocessor.specs.declared.counts.Counts.{Counts}
 pub use Rattle.tso_report.specs.declared.named.Named.{Named}
-pub use Rattle.tso_report.specs.Tally.{printed_value, printed_values, is_looked_at, named_register, named_location, named_registers}
+pub use Rattle.tso_report.specs.Tally.{printed_values, is_looked_at, named_register, named_location, named_registers}
 pub use Rattle.tso_report.specs.Tally.{named_locations, looked_at, count_of_runs, with_values, sweep_line, counted_state_lines, observation}
-pub use Rattle.tso_report.specs.Tally.{tally_text, Ascend, shown_value, frequency_text, ends_text}
+pub use Rattle.tso_report.specs.Tally.{tally_text, Ascend, shown_value}
 pub use Rattle.std.specs.Ordering.{nat_cmp, match_ordering, is_eq, ordering_reverse}
 pub use Rattle.std.specs.Cmp.Lexicographic.{slice_cmp}
 pub use Rattle.std.specs.declared.cmp.Ordering.{Ordering}

@@ -1,6 +1,6 @@
 use Rattle.machine_core.proofs.Vocabulary.{◌∙◌, refl, sym, ap, subst, slice_get, slice_set, length, length-set, Free, acts, Step, Committed}
 use Rattle.machine_core.proofs.Vocabulary.{Unused, words_of, holder_of, Processor, core_state, AreKnown, state_of_cores, held_as, state_in}
-use Rattle.machine_core.proofs.Vocabulary.{pending_in, HasUsed, writes_last_in, updated}
+use Rattle.machine_core.proofs.Vocabulary.{pending_in, HasUsed, writes_last_in}
 use Rattle.machine_core.proofs.ChoiceEffects.{Performs-by, within-cores, IsCore-at, PartsFitTest-next}
 use Rattle.machine_core.proofs.StepCompletions.{next-some, place-within, IsNext, is-next, access-next}
 use Rattle.machine_core.proofs.LastWrites.{WritesAs, has-read, locks-some, is-lock, other-locks, last_part, writes-last, use-last, rests-last}
