@@ -1,8 +1,9 @@
-//! The branch with which a search begins: what the program alone tells, and what the claim gives.
+//! The branch with which each search begins: what the program alone tells, what the claim gives, and what follows.
 
 use crate::makings::Term;
 use crate::sets::add_value;
 use crate::setting::Setting;
+use crate::settle::settle;
 use crate::state::{
     Group, LOCATIONS, READS, State, add_all, add_globally, add_on_location, add_order, empty_state,
 };
@@ -91,12 +92,13 @@ fn add_program(setting: &Setting<'_>, state: &mut State) {
     }
 }
 
-/// The branch of what the program alone tells, and of what the claim gives; it isn't settled yet.
+/// The branch of what the program alone tells, of what the claim gives, and of all that follows from both.
 pub fn first_state(alloc: Global, setting: &Setting<'_>) -> State {
     let mut state = empty_state(alloc, setting);
     add_values(setting, &mut state);
     add_writes(setting, &mut state);
     add_program(setting, &mut state);
     add_all(setting, &mut state, &setting.given);
+    settle(setting, &mut state);
     state
 }

@@ -3,12 +3,10 @@
 use crate::candidates::Candidates;
 use crate::cores::{Cores, find_core};
 use crate::facts::{Fact, NO_FACT, Question};
-use crate::first_state::first_state;
 use crate::lemmas::{Lemma, Lemmas};
 use crate::looking::{Look, choose, cool, warm};
 use crate::questions::{add_answers, is_noted};
 use crate::setting::Setting;
-use crate::settle::settle;
 use crate::state::{State, empty_state};
 use crate::trees::{Trees, Twig};
 use reason_search::lists::{List, NONE};
@@ -77,10 +75,8 @@ pub struct Hunt {
     pub is_short: bool,
 }
 
-/// A search that has nothing yet, and may look at so many cases.
-pub fn make_hunt(alloc: Global, setting: &Setting<'_>, limit: usize) -> Hunt {
-    let mut root = first_state(alloc, setting);
-    settle(setting, &mut root);
+/// A search that has nothing yet but the branch with which it begins, and may look at so many cases.
+pub fn make_hunt(alloc: Global, setting: &Setting<'_>, root: State, limit: usize) -> Hunt {
     Hunt {
         levels: Vec::new(alloc),
         frames: List::new(alloc, 0, NO_FRAME),

@@ -1,11 +1,9 @@
 //! Runs by chance: the cores take steps and write back stores in an order of chance, as far as what is known of each read and write leaves
 //! them possible. Where what is asked is true at the end of many runs, one is found soon.
 
-use crate::first_state::first_state;
 use crate::makings::Term;
 use crate::parts::PartKind;
 use crate::setting::Setting;
-use crate::settle::settle;
 use crate::state::{Group, State};
 use reason_search::chance::{Chance, FIRST_CHANCE};
 use reason_search::lists::{List, NONE};
@@ -334,22 +332,21 @@ fn order_of(setting: &Setting<'_>, run: &Run) -> Result<Execution, NoMemory> {
     })
 }
 
-/// The order of a run at whose end what is asked is true, if one is found within so many steps.
+/// The order of a run at whose end what is asked is true, as far as this branch lets it come, if one is found within so many steps.
 ///
 /// Errors: out of memory only.
 pub fn find_run(
     alloc: Global,
     setting: &Setting<'_>,
+    root: &State,
     most: usize,
 ) -> Result<Option<Execution>, NoMemory> {
-    let mut root = first_state(alloc, setting);
-    settle(setting, &mut root);
-    let mut run = make_run(alloc, setting);
-    if run.is_refused() | root.is_refused() {
-        return Err(NoMemory);
-    }
     if root.is_closed {
         return Ok(None);
+    }
+    let mut run = make_run(alloc, setting);
+    if run.is_refused() {
+        return Err(NoMemory);
     }
     let mut steps = 0usize;
     for round in 0..most {
@@ -358,7 +355,7 @@ pub fn find_run(
         }
         begin(setting, &mut run);
         let patience = 1usize << (round % 4);
-        let taken = finish(setting, &root, &mut run, patience);
+        let taken = finish(setting, root, &mut run, patience);
         steps = steps.wrapping_add(taken).wrapping_add(8);
         if is_met(setting, &mut run) {
             return Ok(Some(order_of(setting, &run)?));

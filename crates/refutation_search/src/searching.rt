@@ -3,6 +3,7 @@
 //! alone.
 
 use crate::borrowing::take_over;
+use crate::first_state::first_state;
 use crate::hunt::{Find, Hunt, hunt_for, make_hunt};
 use crate::learner::Learner;
 use crate::learnt_search::search_learning;
@@ -10,6 +11,7 @@ use crate::ordering::make_order;
 use crate::proposal::{Proposal, propose};
 use crate::runs::find_run;
 use crate::setting::{Setting, make_setting};
+use crate::state::State;
 use reading_tables::tables::Problem;
 use reason_search::{has_tree, make_guide_within, proposed_order};
 use refutation_laws::Model;
@@ -116,15 +118,16 @@ fn hunt_on<'t>(
     }
 }
 
-/// Searches with this twist for so many cases.
+/// Searches from this branch with this twist for so many cases.
 fn try_twist<'t>(
     alloc: Global,
     setting: &Setting<'t>,
     problem: &Problem<'t>,
+    root: &State,
     twist: usize,
     limit: usize,
 ) -> Result<Proposed<'t>, NoMemory> {
-    let mut hunt = make_hunt(alloc, setting, limit);
+    let mut hunt = make_hunt(alloc, setting, root.copy(setting), limit);
     hunt.look.twist = twist;
     hunt_on(alloc, setting, problem, &mut hunt, limit)
 }
@@ -134,9 +137,10 @@ fn ask_back<'t>(
     alloc: Global,
     setting: &Setting<'t>,
     problem: &Problem<'t>,
+    root: &State,
     limit: usize,
 ) -> Result<Proposed<'t>, NoMemory> {
-    let mut hunt = make_hunt(alloc, setting, limit);
+    let mut hunt = make_hunt(alloc, setting, root.copy(setting), limit);
     let times = (setting.size / FEW_EVENTS).max(1);
     hunt.looks /= times.saturating_mul(times).max(1);
     hunt.look.goes_back = true;
@@ -156,6 +160,7 @@ fn borrow<'t>(
     setting: &Setting<'t>,
     problem: &Problem<'t>,
     model: Model,
+    root: &State,
     limit: usize,
 ) -> Result<Proposed<'t>, NoMemory> {
     let most = setting.affordable(MOST_WORK, 3);
@@ -167,7 +172,7 @@ fn borrow<'t>(
     if !has_tree(&guide) {
         return Ok(Proposed::Nothing);
     }
-    let mut hunt = make_hunt(alloc, setting, 0);
+    let mut hunt = make_hunt(alloc, setting, root.copy(setting), 0);
     let node = take_over(alloc, setting, &mut guide, &mut hunt.trees)?;
     if hunt.is_refused() {
         return Err(NoMemory);
@@ -189,27 +194,29 @@ fn shorter<'t>(best: Proposal<'t>, other: Proposed<'t>) -> Proposal<'t> {
     }
 }
 
-/// Looks for a refutation that is shorter than this one, each time for no more cases than this one took.
+/// Looks for a refutation that is shorter than the one which this search found, each time for no more cases than it took.
 fn shorten<'t>(
     alloc: Global,
     setting: &Setting<'t>,
     problem: &Problem<'t>,
     model: Model,
+    hunt: &Hunt,
     first: Proposal<'t>,
-    cases: usize,
     limit: usize,
 ) -> Result<Proposal<'t>, NoMemory> {
+    let root = &hunt.root;
+    let cases = hunt.cases;
     let mut best = first;
     for twist in 1..MOST_TRIES {
         let is_over = cases.saturating_mul(twist) > limit;
         if is_over | (best.lines <= FEW_LINES) {
             break;
         }
-        let other = try_twist(alloc, setting, problem, twist, cases)?;
+        let other = try_twist(alloc, setting, problem, root, twist, cases)?;
         best = shorter(best, other);
     }
     if best.lines > MANY_LINES {
-        let other = borrow(alloc, setting, problem, model, limit.min(FEW_CASES))?;
+        let other = borrow(alloc, setting, problem, model, root, limit.min(FEW_CASES))?;
         best = shorter(best, other);
     }
     Ok(best)
@@ -227,23 +234,24 @@ fn shortened<'t>(
 ) -> Result<Proposed<'t>, NoMemory> {
     match found {
         Proposed::Refutation(first) if hunt.look.made <= hunt.looks / FIRST_PART => {
-            let best = shorten(alloc, setting, problem, model, first, hunt.cases, limit)?;
+            let best = shorten(alloc, setting, problem, model, hunt, first, limit)?;
             Ok(Proposed::Refutation(best))
         }
         other => Ok(other),
     }
 }
 
-/// Searches for a part of the looks, then back from what is told, then with what is learnt from each branch, and then over sources and
+/// Searches from this branch for a part of the looks, then back from what is told, then with what is learnt from each branch, and then over sources and
 /// orders alone.
 fn propose_reason<'t>(
     alloc: Global,
     setting: &Setting<'t>,
     problem: &Problem<'t>,
     model: Model,
+    root: State,
     limit: usize,
 ) -> Result<Proposed<'t>, NoMemory> {
-    let mut hunt = make_hunt(alloc, setting, limit);
+    let mut hunt = make_hunt(alloc, setting, root, limit);
     let looks = hunt.looks;
     hunt.looks = looks / FIRST_PART;
     let first = hunt_on(alloc, setting, problem, &mut hunt, limit)?;
@@ -251,9 +259,9 @@ fn propose_reason<'t>(
     if !matches!(first, Proposed::Nothing) {
         return shortened(alloc, setting, problem, model, &hunt, first, limit);
     }
-    let back = ask_back(alloc, setting, problem, limit)?;
+    let back = ask_back(alloc, setting, problem, &hunt.root, limit)?;
     let found = or_learnt(alloc, setting, problem, &mut hunt, back, limit)?;
-    or_borrowed(alloc, setting, problem, model, found, limit)
+    or_borrowed(alloc, setting, problem, model, &hunt.root, found, limit)
 }
 
 /// What was found, or a shorter one that is learnt, or any where nothing was found.
@@ -281,15 +289,16 @@ fn or_borrowed<'t>(
     setting: &Setting<'t>,
     problem: &Problem<'t>,
     model: Model,
+    root: &State,
     found: Proposed<'t>,
     limit: usize,
 ) -> Result<Proposed<'t>, NoMemory> {
     match found {
         Proposed::Refutation(best) if best.lines > MANY_LINES => {
-            let other = borrow(alloc, setting, problem, model, limit.min(FEW_CASES))?;
+            let other = borrow(alloc, setting, problem, model, root, limit.min(FEW_CASES))?;
             Ok(Proposed::Refutation(shorter(best, other)))
         }
-        Proposed::Nothing => borrow(alloc, setting, problem, model, limit),
+        Proposed::Nothing => borrow(alloc, setting, problem, model, root, limit),
         other => Ok(other),
     }
 }
@@ -337,9 +346,13 @@ pub fn propose_answer<'t>(
     if setting.is_refused() {
         return Err(NoMemory);
     }
+    let root = first_state(alloc, &setting);
+    if root.is_refused() {
+        return Err(NoMemory);
+    }
     let steps = limit.saturating_mul(STEPS_FOR_CASE).min(MOST_STEPS);
-    if let Some(execution) = find_run(alloc, &setting, steps)? {
+    if let Some(execution) = find_run(alloc, &setting, &root, steps)? {
         return Ok(Proposed::Execution(execution));
     }
-    propose_reason(alloc, &setting, problem, model, limit)
+    propose_reason(alloc, &setting, problem, model, root, limit)
 }

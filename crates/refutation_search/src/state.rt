@@ -106,6 +106,13 @@ impl State {
             | self.truths.is_refused
     }
 
+    /// The same branch once more.
+    pub fn copy(&self, setting: &Setting<'_>) -> State {
+        let mut copy = empty_state(setting.alloc, setting);
+        copy.copy_from(self);
+        copy
+    }
+
     /// Makes it the same branch as another one.
     pub fn copy_from(&mut self, other: &State) {
         copy_rows(&mut self.rows, &other.rows);
