@@ -16,7 +16,7 @@ ghost use Rattle.search_report.specs.declared.cases_of_lines.Closed as declared;
 use crate::cases_of_lines::{Closed, Open, Part, take_cases};
 use crate::lines::{Answered, Line, deeper};
 use crate::shown::ShownFact;
-use crate::shown_facts::{add_all, add_shown};
+use crate::shown_facts::{add_all, add_shown, add_shown_anywhere};
 use crate::standing::{Standing, nodes_in_branches};
 use reading_tables::facts::Fact;
 use reading_tables::rounds::make_table;
@@ -251,7 +251,7 @@ fn tree_lines<'t>(
     Ok(lines)
 }
 
-/// What the claim gives, as it is shown.
+/// What the claim gives, as it is shown. A table is made only where a fact of it is shown with values of events.
 ///
 /// Errors: out of memory only.
 fn shown_given(
@@ -263,6 +263,10 @@ fn shown_given(
     ensures { IfOk result (λ shown. shown_facts_of shown
         ≡ shown_facts problem.now.test.now (known_from problem.now.test.now (facts_of given.now)) (facts_of given.now)) }
 {
+    let mut shown = Vec::new(alloc);
+    if add_shown_anywhere(alloc, &mut shown, problem.test, given)? {
+        return Ok(shown);
+    }
     let table = make_table(alloc, problem, given)?;
     let mut shown = Vec::new(alloc);
     add_shown(alloc, &mut shown, told_by(problem, given, &table), given)?;
