@@ -9,3 +9,4 @@ pub mod MadeValues
 pub mod Walking
 pub mod PutBefore
 pub mod Settled
+pub mod OneRound

@@ -2,7 +2,6 @@
 use Rattle.reading_tables.proofs.Vocabulary.{◌≡◌, ◌&&◌, ◌||◌, ℕ, Bool, true, false, if◌then◌else◌, List, [], ◌∷◌, Option, Some, None, refl, ap, ◌∙◌}
 use Rattle.reading_tables.proofs.Vocabulary.{filter, list_any, list_all, Entry, Litmus}
 use Rattle.std.specs.Prelude.{not}
-use Rattle.refutation_laws.specs.Known.{same_event}
 use Rattle.possible_reads.specs.Facts.{Fact, From, Before, Last, Returns, Holds}
 use Rattle.possible_reads.specs.Possible.{Values, Reading, fits_source, is_in_order, is_taken, can_be, values_from, fits_value, may_return}
 use Rattle.possible_reads.specs.Possible.{returns_less, least_from, can_read_from}
@@ -74,7 +73,7 @@ reads-own t facts table read source =
     && can_be values (may_return facts read) && not b)
     (any-own (speaks_of read) (returns_less read least) (less-own read least) facts))
 
-kept-same : (p q : Option Entry → Bool) → ((s : Option Entry) → p s ≡ q s) → (ss : List (Option Entry)) → filter p ss ≡ filter q ss
+pub kept-same : (p q : Option Entry → Bool) → ((s : Option Entry) → p s ≡ q s) → (ss : List (Option Entry)) → filter p ss ≡ filter q ss
 kept-same p q same [] = refl
 kept-same p q same (s ∷ ss) =
     ap (λ b. if b then s ∷ filter p ss else filter p ss) (same s) ∙ ap (λ rest. if q s then s ∷ rest else rest) (kept-same p q same ss)

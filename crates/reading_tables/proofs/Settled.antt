@@ -6,7 +6,7 @@ use Rattle.refutation_laws.specs.Known.{events_of}
 use Rattle.possible_reads.specs.Facts.{Fact}
 use Rattle.possible_reads.specs.Possible.{Reading, reading_after, readings_after, readings}
 
-settled : (t : Litmus) (facts : List Fact) (n all : ℕ) → n ≤ all → readings_after t facts (suc n) ≡ readings_after t facts n
+pub settled : (t : Litmus) (facts : List Fact) (n all : ℕ) → n ≤ all → readings_after t facts (suc n) ≡ readings_after t facts n
     → readings_after t facts all ≡ readings_after t facts n
 settled t facts n zero l h = let e : zero ≡ n = omega (arith, l) in ap (readings_after t facts) e
 settled t facts n (suc all) l h = elim (split n all l) [

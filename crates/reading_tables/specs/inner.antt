@@ -3,5 +3,6 @@ pub mod Addends
 pub mod Bounds
 pub mod Numbers
 pub mod Orders
+pub mod Plain
 pub mod Tables
 pub mod Told

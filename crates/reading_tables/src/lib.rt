@@ -4,11 +4,13 @@
 pub mod amounts;
 pub mod counting;
 pub mod ends;
+pub mod equality;
 pub mod expressions;
 pub mod facts;
 pub mod leasts;
 pub mod numbers;
 pub mod orders;
+pub mod plain;
 pub mod rounds;
 pub mod sources;
 pub mod tables;

@@ -9,9 +9,11 @@ ghost use Rattle.reading_tables.specs.inner.Told.{held_of, making_of, all_made, 
 ghost use Rattle.reading_tables.specs.inner.Tables.{IsProblem, IsTold, AreMadeValues, AreTableValues, AreValues, reading_of, readings_of};
 
 use crate::counting::counted_values;
+use crate::equality::same_readings;
 use crate::expressions::{Held, Making, Written};
 use crate::facts::{Fact, may_return, told_value};
 use crate::leasts::{all_least, least_after};
+use crate::plain::{is_plain, plain_table};
 use crate::sources::sources_after;
 use crate::tables::{Problem, Reading, Table, Told, reading_for, told_by, values_written};
 use crate::values::{
@@ -22,7 +24,10 @@ use refutations::values::first_word;
 use std::alloc::Global;
 use tso_terms::{Entry, NoMemory};
 
-fn told_values(
+/// The value that a fact says of the read.
+///
+/// Errors: out of memory only.
+pub fn told_values(
     alloc: Global,
     facts: &[Fact<'_>],
     read: &Entry,
@@ -91,7 +96,9 @@ fn returned(
 }
 
 /// Those of the values that the facts let the read return.
-fn kept_values(
+///
+/// Errors: out of memory only.
+pub fn kept_values(
     alloc: Global,
     values: &Option<Vec<u32>>,
     facts: &[Fact<'_>],
@@ -256,7 +263,13 @@ fn write_values(
 }
 
 /// The table of these readings.
-fn table_of(alloc: Global, problem: &Problem<'_>, readings: Vec<Reading>) -> Result<Table, NoMemory>
+///
+/// Errors: out of memory only.
+pub fn table_of(
+    alloc: Global,
+    problem: &Problem<'_>,
+    readings: Vec<Reading>,
+) -> Result<Table, NoMemory>
     requires { IsProblem problem.now.test.now problem.now }
     ensures readings { IfOk result (λ x. x.readings.items ≡ readings.items) }
     ensures values { IfOk result (λ x. AreTableValues problem.now x) }
@@ -272,75 +285,10 @@ fn table_of(alloc: Global, problem: &Problem<'_>, readings: Vec<Reading>) -> Res
     })
 }
 
-fn same_values(a: &Option<Vec<u32>>, b: &Option<Vec<u32>>) -> bool
-    ensures { result ≡ true → known_of a.now ≡ known_of b.now }
-{
-    match (a, b) {
-        (None, None) => true,
-        (Some(a), Some(b)) => a == b,
-        _ => false,
-    }
-}
-
-fn equal_source(a: &Option<Entry>, b: &Option<Entry>) -> bool
-    ensures { result ≡ true → a.now ≡ b.now }
-{
-    match (a, b) {
-        (None, None) => true,
-        (Some(w), Some(v)) => w == v,
-        _ => false,
-    }
-}
-
-fn equal_sources(xs: &[Option<Entry>], ys: &[Option<Entry>]) -> bool
-    ensures { result ≡ true → xs.now ≡ ys.now }
-{
-    if xs.len() != ys.len() {
-        return false;
-    }
-    let mut left = xs.len();
-    while left > 0 {
-        left -= 1;
-        if !equal_source(&xs[left], &ys[left]) {
-            return false;
-        }
-    }
-    true
-}
-
-fn same_reading(a: &Reading, b: &Reading) -> bool
-    ensures { result ≡ true → reading_of a.now ≡ reading_of b.now }
-{
-    if a.read != b.read {
-        return false;
-    }
-    if a.least != b.least {
-        return false;
-    }
-    if !equal_sources(&a.sources, &b.sources) {
-        return false;
-    }
-    same_values(&a.values, &b.values)
-}
-
-fn same_readings(xs: &[Reading], ys: &[Reading]) -> bool
-    ensures { result ≡ true → readings_of xs.now ≡ readings_of ys.now }
-{
-    if xs.len() != ys.len() {
-        return false;
-    }
-    let mut left = xs.len();
-    while left > 0 {
-        left -= 1;
-        if !same_reading(&xs[left], &ys[left]) {
-            return false;
-        }
-    }
-    true
-}
-
 /// A table that tells nothing yet.
-fn first_table(alloc: Global, problem: &Problem<'_>) -> Result<Table, NoMemory>
+///
+/// Errors: out of memory only.
+pub fn first_table(alloc: Global, problem: &Problem<'_>) -> Result<Table, NoMemory>
     requires { IsProblem problem.now.test.now problem.now }
     ensures readings { IfOk result (λ x. readings_of x.readings.items ≡ []) }
     ensures values { IfOk result (λ x. AreTableValues problem.now x) }
@@ -378,6 +326,9 @@ pub fn make_table(
     ensures readings { IfOk result (λ x. readings_of x.readings.items ≡ spec.readings problem.now.test.now (facts_of facts.now)) }
     ensures values { IfOk result (λ x. AreTableValues problem.now x) }
 {
+    if is_plain(problem) {
+        return plain_table(alloc, problem, facts);
+    }
     let mut table = first_table(alloc, problem)?;
     for _round in 0..problem.events.len() {
         let next = next_table(alloc, problem, facts, &table)?;

@@ -68,7 +68,9 @@ fn is_overwritten(events: &[Entry], read: &Entry, w: &Entry) -> bool
 }
 
 /// The events of a core.
-fn events_of_core(alloc: Global, events: &[Entry], core: Core) -> Result<Vec<Entry>, NoMemory>
+///
+/// Errors: out of memory only.
+pub fn events_of_core(alloc: Global, events: &[Entry], core: Core) -> Result<Vec<Entry>, NoMemory>
     ensures { IfOk result (λ own. own.items ≡ filter (is_of_core core.0) events.now) }
 {
     let mut own = Vec::new(alloc);
@@ -81,7 +83,7 @@ fn events_of_core(alloc: Global, events: &[Entry], core: Core) -> Result<Vec<Ent
 }
 
 /// Whether program order leaves it possible that the read reads from this, where these are the events of its core.
-fn is_in_order(test: &Test, own: &[Entry], read: &Entry, source: &Option<Entry>) -> bool
+pub fn is_in_order(test: &Test, own: &[Entry], read: &Entry, source: &Option<Entry>) -> bool
     requires { own.now ≡ filter (is_of_core read.now.core.0) (events_of test.now) }
     ensures { result ≡ spec.is_in_order test.now read.now source.now }
 {

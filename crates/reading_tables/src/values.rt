@@ -108,6 +108,43 @@ pub fn either_of(us: &Option<Vec<u32>>, vs: Option<Vec<u32>>) -> Result<Option<V
     Ok(at_most_64(union(us, vs)?))
 }
 
+/// These values, and this one before them if it isn't among them.
+fn with_value(values: Vec<u32>, value: u32) -> Result<Vec<u32>, NoMemory>
+    ensures { IfOk result (λ all. all.items ≡ spec.union (value ∷ []) values.items) }
+{
+    let mut all = values;
+    if is_among(&all, value) {
+        return Ok(all);
+    }
+    all.insert(0, value)?;
+    Ok(all)
+}
+
+/// This value, or one of those.
+fn or_value(values: Option<Vec<u32>>, value: u32) -> Result<Option<Vec<u32>>, NoMemory>
+    ensures { IfOk result (λ v. known_of v ≡ spec.either_of (Some (value ∷ [])) (known_of values)) }
+{
+    match values {
+        None => Ok(None),
+        Some(values) => Ok(at_most_64(with_value(values, value)?)),
+    }
+}
+
+/// One of these values.
+///
+/// Errors: out of memory only.
+pub fn one_of(alloc: Global, values: &[u32]) -> Result<Option<Vec<u32>>, NoMemory>
+    ensures { IfOk result (λ v. known_of v ≡ spec.any_of (map (λ n. Some (n ∷ [])) values.now)) }
+{
+    let mut all = Some(Vec::new(alloc));
+    let mut left = values.len();
+    while left > 0 {
+        left -= 1;
+        all = or_value(all, values[left])?;
+    }
+    Ok(all)
+}
+
 /// Those of these values that are among those.
 fn common(alloc: Global, us: &[u32], vs: &[u32]) -> Result<Vec<u32>, NoMemory>
     ensures { IfOk result (λ all. Some all.items ≡ spec.both_of (Some us.now) (Some vs.now)) }

@@ -1,5 +1,5 @@
 use Rattle.reading_tables.proofs.Vocabulary.{◌≡◌, ◌≤◌, drop, length}
-use Rattle.reading_tables.proofs.rounds.equal_sources.Given as goal
+use Rattle.reading_tables.proofs.equality.equal_sources.Given as goal
 
 abbrev pub invariant-loop-left : goal.invariant-loop-left
 invariant-loop-left l = record { same : drop l.left l.xs ≡ drop l.left l.ys; within : l.left ≤ length l.xs }

@@ -1,6 +1,6 @@
 use Rattle.reading_tables.proofs.Vocabulary.{◌≡◌, drop, ◌≤◌, length}
 use Rattle.reading_tables.specs.inner.Tables.{readings_of}
-use Rattle.reading_tables.proofs.rounds.same_readings.Given as goal
+use Rattle.reading_tables.proofs.equality.same_readings.Given as goal
 
 abbrev pub invariant-loop-left : goal.invariant-loop-left
 invariant-loop-left l =
