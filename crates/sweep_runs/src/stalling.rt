@@ -1,8 +1,10 @@
 //! Which choices of a run stalled since its machine last changed. Most choices of a run on a split bus stall, since another core
 //! holds the bus, and a stall changes nothing: until another choice is made it stalls again. So a sweep needn't ask the machine again.
 
-ghost use Rattle.std.specs.Prelude.{◌≡◌, None};
-ghost use Rattle.sweep_runs.specs.inner.Stalling.{place_of_choice, reason_at, noted_at, AllStall};
+ghost use Rattle.std.specs.Prelude.{◌≡◌, ◌<◌, None};
+ghost use Rattle.tso_terms.specs.Limits.{most_cores};
+ghost use Rattle.tso_terms.specs.FlatMachine.{chosen};
+ghost use Rattle.sweep_runs.specs.inner.Stalling.{place_of_choice, reason_at, noted_at, KnowsMachine};
 
 use machine_core::Machine;
 use machine_runs::Observer;
@@ -32,23 +34,19 @@ impl Stalling {
     /// Why this choice stalled, if it did.
     #[inline(always)]
     fn reason(&self, choice: Choice) -> Option<Stall>
+        requires { chosen choice < most_cores }
         ensures { result ≡ reason_at choice self.now }
     {
-        match self.reasons.get(place_of_choice(choice)) {
-            None => None,
-            Some(reason) => *reason,
-        }
+        self.reasons[place_of_choice(choice)]
     }
 
     /// This choice stalled for this reason.
     #[inline(always)]
     fn note(&mut self, choice: Choice, reason: Stall)
+        requires { chosen choice < most_cores }
         ensures { self.new ≡ noted_at choice reason self.old }
     {
-        let place = place_of_choice(choice);
-        if place < CHOICES {
-            self.reasons[place] = Some(reason);
-        }
+        self.reasons[place_of_choice(choice)] = Some(reason);
     }
 }
 
@@ -63,11 +61,11 @@ fn place_of_choice(choice: Choice) -> usize
 }
 
 impl Observer for Stalling {
-    ghost begins = { λ o m. AllStall o m };
+    ghost begins = { λ o m. KnowsMachine o m };
 
     ghost opens = { λ _ _ _. Unit {0} };
 
-    ghost watches = { λ o m. AllStall o m };
+    ghost watches = { λ o m. KnowsMachine o m };
 
     ghost makes = { λ _ _ _ _ _. Unit {0} };
 

@@ -1,6 +1,7 @@
 -- Choices of a run that stalled since its machine last changed, and so stall again.
-use Rattle.std.specs.Prelude.{ℕ, ◌≡◌, Option, Some, None, slice_set, slice_index_or, ◌+◌, ◌*◌}
+use Rattle.std.specs.Prelude.{ℕ, ◌≡◌, ◌≤◌, length, Option, Some, None, slice_set, slice_index_or, ◌+◌, ◌*◌}
 use Rattle.basic_laws.specs.Types.{Choice, Step, Drain, Stall, Stalled}
+use Rattle.tso_terms.specs.Limits.{most_cores}
 use Rattle.machine_core.specs.Running.{Running, machine_effect, machine_after, AnswerFits}
 use Rattle.sweep_runs.specs.declared.stalling.Stalling.{Stalling}
 
@@ -26,3 +27,8 @@ pub record Stalls (m : Running) (choice : Choice) (reason : Stall) : Type 0 wher
 -- so does each that stalled
 abbrev pub AllStall : Stalling → Running → Type 0
 AllStall s m = (choice : Choice) (reason : Stall) → reason_at choice s ≡ Some reason → Stalls m choice reason
+
+-- what stalled on this machine stalls again, and each of its choices has a place
+pub record KnowsMachine (s : Stalling) (m : Running) : Type 0 where
+  pub stall : AllStall s m
+  pub cores : length m.test.programs ≤ most_cores

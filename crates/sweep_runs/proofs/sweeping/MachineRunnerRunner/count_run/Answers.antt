@@ -1,6 +1,7 @@
-use Rattle.sweep_runs.proofs.Vocabulary.{ℕ, List, length, ap, sym, subst, ◌∙◌, refl, Litmus, Running, table_in, configuration_of, RunCounts}
+use Rattle.sweep_runs.proofs.Vocabulary.{◌≤◌, ℕ, List, length, ap, sym, subst, ◌∙◌, refl, Litmus, Running, table_in, configuration_of, RunCounts}
 use Rattle.sweep_runs.proofs.Vocabulary.{with_state_counted, with_verdict, values_in, machine_run, verdict, with_one_run, RunLaws, from-new}
 use Rattle.sweep_runs.proofs.Vocabulary.{unfinished-is}
+use Rattle.tso_terms.specs.Limits.{most_cores}
 use Rattle.tso_terms.specs.Runs.{CoresExist}
 use Rattle.tso_laws.specs.BusChoices.{IsPossibleOn}
 use Rattle.sweep_runs.proofs.SweptRuns.{goes-back, as-before, counted-ended, counted-unfinished}
@@ -97,7 +98,10 @@ drive_machine-requires-clause-cores g c =
     subst (λ (t : Litmus). CoresExist (length t.programs) (g.C.Choices.coming c.args.choices.now)) (sym c.requires.runs.1) c.requires.cores
 
 pub drive_machine-requires-clause-watches : goal.drive_machine-requires-clause-watches
-drive_machine-requires-clause-watches g c = none-noted c.nothing.result c.args.self.now.machine c.nothing.ensures
+drive_machine-requires-clause-watches g c = record {
+  stall = none-noted c.nothing.result c.args.self.now.machine c.nothing.ensures;
+  cores = subst (λ (t : Litmus). length t.programs ≤ most_cores) (sym c.requires.runs.1) c.know_limits.ensures.cores;
+}
 
 pub end_run-requires : goal.end_run-requires
 end_run-requires g c = sym c.is_ended.ensures ∙ c.if-not-is_ended.false
