@@ -72,6 +72,7 @@ fn advance_taking(processor: &mut Processor, target: Option<Reg>, word: u32)
     processor.place += 1;
 }
 
+#[inline(always)]
 fn store(
     processor: &mut Processor,
     memory: &mut Vec<u32>,
@@ -108,6 +109,7 @@ fn store(
     Ok(Outcome::Buffered)
 }
 
+#[inline(always)]
 fn lock(
     processor: &mut Processor,
     memory: &mut Vec<u32>,
@@ -136,6 +138,7 @@ fn lock(
 /// A step of the core at this action, which is its next.
 ///
 /// Errors: out of memory only.
+#[inline(always)]
 pub fn step(
     processor: &mut Processor,
     memory: &mut Vec<u32>,
@@ -175,6 +178,7 @@ pub fn step(
 }
 
 /// A drain of the core's oldest pending store.
+#[inline(always)]
 pub fn drain(processor: &mut Processor, memory: &mut Vec<u32>) -> Outcome
     ensures outcome { result ≡ (drain_of (core_of_processor processor.old)).outcome }
     ensures after { core_of_processor processor.new ≡ (drain_of (core_of_processor processor.old)).after }
@@ -216,6 +220,8 @@ pub fn is_idle(state: &Snapshot, test: &Test, choice: Choice) -> bool
 /// A choice of one of the test's cores.
 ///
 /// Errors: out of memory only.
+// It is a part of its caller, with all that it does: as calls these have a sweep execute half as many instructions more.
+#[inline(always)]
 pub fn act(
     state: &mut Snapshot,
     test: &Test,
