@@ -43,6 +43,9 @@ const STEPS_FOR_CASE: usize = 20_000;
 
 const MOST_STEPS: usize = 2_000_000;
 
+/// How many of these steps they take before a short search has its turn.
+const FEW_STEPS: usize = 20_000;
+
 /// How much work the search over sources and orders alone may be, where each case costs the cube of the number of events; and how many
 /// cases it looks at only for a shorter refutation.
 const MOST_WORK: usize = 800_000_000;
@@ -332,6 +335,37 @@ fn learn_long<'t>(
     }
 }
 
+/// Whether a short search from this branch closes it.
+fn is_soon_closed(alloc: Global, setting: &Setting<'_>, root: &State) -> Result<bool, NoMemory> {
+    let mut hunt = make_hunt(alloc, setting, root.copy(setting), 1);
+    hunt.looks = hunt.looks.min(hunt.most_looks);
+    let found = hunt_for(setting, &mut hunt, 1);
+    if hunt.is_refused() {
+        return Err(NoMemory);
+    }
+    Ok(matches!(found, Find::Refuted(_)))
+}
+
+/// The order of a run at whose end what is asked is true, if one is found. None is looked for any longer once a short search has closed the
+/// branch.
+fn find_order(
+    alloc: Global,
+    setting: &Setting<'_>,
+    root: &State,
+    limit: usize,
+) -> Result<Option<Execution>, NoMemory> {
+    let steps = limit.saturating_mul(STEPS_FOR_CASE).min(MOST_STEPS);
+    let few = steps.min(FEW_STEPS);
+    let first = find_run(alloc, setting, root, few)?;
+    if first.is_some() | root.is_closed | (few == steps) {
+        return Ok(first);
+    }
+    if is_soon_closed(alloc, setting, root)? {
+        return Ok(None);
+    }
+    find_run(alloc, setting, root, steps)
+}
+
 /// Searches for an execution in which what a test asks is true, or a refutation by lemmas of it, for so many cases: what it proposes, if it
 /// finds one. Once it has a refutation, it looks a few times more for a shorter one.
 ///
@@ -350,8 +384,7 @@ pub fn propose_answer<'t>(
     if root.is_refused() {
         return Err(NoMemory);
     }
-    let steps = limit.saturating_mul(STEPS_FOR_CASE).min(MOST_STEPS);
-    if let Some(execution) = find_run(alloc, &setting, &root, steps)? {
+    if let Some(execution) = find_order(alloc, &setting, &root, limit)? {
         return Ok(Proposed::Execution(execution));
     }
     propose_reason(alloc, &setting, problem, model, root, limit)
