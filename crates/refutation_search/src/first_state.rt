@@ -10,23 +10,34 @@ use crate::state::{
 use reason_search::lists::NONE;
 use std::alloc::Global;
 
+/// Takes from a read a write of its own core that comes later, or else what that overwrites: the last source of its own core.
+fn take_own(state: &mut State, row: usize, r: usize, w: usize, last: usize) -> usize {
+    if w > r {
+        state.rows.remove(row, w);
+        last
+    } else {
+        state.rows.remove(row, last);
+        w
+    }
+}
+
 /// What a read can read from by program order: not a later write of its core, nor what an earlier one has overwritten.
 fn add_sources(setting: &Setting<'_>, state: &mut State, r: usize) {
-    let x = setting.events.at(r).location;
+    let event = setting.events.at(r);
+    let x = event.location;
     let row = Group::Sources.row(setting, r);
     state.rows.join(row, &setting.writes_to, x);
     state.rows.add(row, x);
-    let core = setting.events.at(r).core;
-    let mut last = NONE;
-    for w in setting.locations..setting.size {
-        if setting.writes_to.has(x, w) & (setting.events.at(w).core == core) {
-            if w > r {
-                state.rows.remove(row, w);
-            } else {
-                state.rows.remove(row, if last == NONE { x } else { last });
-                last = w;
-            }
+    let mut last = x;
+    let mut w = setting.events_of.next(event.core, setting.locations);
+    for _event in setting.locations..setting.size {
+        if w == NONE {
+            break;
         }
+        if setting.writes_to.has(x, w) {
+            last = take_own(state, row, r, w, last);
+        }
+        w = setting.events_of.next(event.core, w.wrapping_add(1));
     }
     state.sets.add(READS, r);
 }
