@@ -1,6 +1,6 @@
-//! The whole search: runs by chance for an execution; depth first for a refutation, again and again with what was learnt, and a few times
-//! more for a shorter one. Where that takes too long, the search that learns from each branch; and the search over sources and orders
-//! alone.
+//! The whole search: runs by chance for an execution, most of them only where a short search hasn't closed what the claim gives; depth first
+//! for a refutation, again and again with what was learnt, and a few times more for a shorter one. Where that takes too long, the search that
+//! learns from each branch; and the search over sources and orders alone.
 
 use crate::borrowing::take_over;
 use crate::first_state::first_state;
