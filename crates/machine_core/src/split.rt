@@ -29,9 +29,29 @@ use tso_laws::accesses_wait;
 use tso_terms::{Action, Choice, Core, Instr, Loc, NoMemory, Outcome, Stall, Test};
 
 /// Makes a choice on a split bus, and answers its outcome and what it had to do with the caches.
-// It is a part of its caller: a call would lay down its answer in memory, in a place that each choice clears, also on the atomic bus.
+// The answer of the call is laid down here: on the atomic bus no choice makes room for it.
 #[inline(always)]
 pub fn act_on_split<P: Protocol>(
+    hardware: &mut Hardware<P>,
+    test: &Test,
+    choice: Choice,
+) -> Result<(Outcome, CacheUse), NoMemory>
+    requires core { chosen choice < length test.now.programs }
+    requires consistent { AreConsistent Bus.Split test.now hardware.old }
+
+    ensures makes { IfOk result (Makes split_effect_in test.now hardware.old hardware.new choice) }
+    ensures succeeds { SucceedsUnlessCommitting result (split_effect_in test.now hardware.old choice).effect }
+    ensures answer { AnswerFitsIn test.now hardware.old choice }
+    ensures err { OnErr result (IsUndone hardware.old hardware.new) }
+    ensures keeps { KeepsHardware hardware.old hardware.new }
+    ensures of_test { AreOfTest test.now hardware.new }
+{
+    go_on_or_begin(hardware, test, choice)
+}
+
+/// Makes the holder's next choice, or another one.
+// It stays a call of its own: a choice that held it too would be too large to be inlined on the atomic bus.
+fn go_on_or_begin<P: Protocol>(
     hardware: &mut Hardware<P>,
     test: &Test,
     choice: Choice,

@@ -1,8 +1,8 @@
 use Rattle.machine_core.proofs.Vocabulary.{Some, sym, ap, ◌∙◌, subst, IfOk, Step, IsOther, holder_by, state_in, attempt_in}
 use Rattle.machine_core.proofs.Vocabulary.{SucceedsUnlessCommitting, HasMade, writes_last_in, rules}
 use Rattle.machine_core.proofs.NextChoices.{other-begins, is-asked, asked-completes, last-writes, fits-asked, fits-last}
-use Rattle.machine_core.proofs.split.act_on_split.Goals as goal
-use Rattle.machine_core.proofs.split.act_on_split.Goals.{After-begin}
+use Rattle.machine_core.proofs.split.go_on_or_begin.Goals as goal
+use Rattle.machine_core.proofs.split.go_on_or_begin.Goals.{After-begin}
 
 other : (g : _) (c : After-begin g) → IsOther (state_in c.args.hardware.now).holder c.args.choice
 other g c = search rules
