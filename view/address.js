@@ -7,10 +7,23 @@ const LONGEST_ADDRESS = 8000;
 /** By these words an address of a test begins. Any other is that of a picture: a line of `run --json`. */
 const TEST_ADDRESS = /^test=/;
 
-/** What stands after `#` in the address of what is written now. */
-function currentAddress() {
+/** One's own run, from which an answer of its test was asked; else null. */
+const runBehind = () => (currentCommand() !== 'run' && ownRun.kept?.test === byId('test').value ? ownRun.kept : null);
+
+/** The choices that an address has. */
+const choicesOfAddress = () => runBehind()?.choices ?? choicesText();
+
+/** The same, where the test has a run of them: such as are refused lead nobody anywhere. */
+function choicesToTell() {
+  const { options } = readSettings('run'), text = choicesOfAddress();
+  const isRefused = text.trim() !== '' && options !== undefined && /^Refused choices/.test(asked(options, `${inputOf('sweep')}${DIVIDING_LINE}\n${text}`).text);
+  return isRefused ? '' : text;
+}
+
+/** What stands after `#` in the address of what is written now. An answer's has the run that it was asked from, which it may explain. */
+function currentAddress(choices = choicesOfAddress()) {
   const command = currentCommand();
-  const pairs = [['test', byId('test').value], ['choices', choicesText()], ['order', byId('given').value], ['command', command]];
+  const pairs = [['test', byId('test').value], ['choices', choices], ['order', byId('given').value], ['command', command]];
   const told = pairs.filter(([name, value]) => name === 'test' || (name === 'command' ? value !== 'run' : value !== ''));
   const embedded = document.documentElement.classList.contains('embedded') ? [['embed', '1']] : [];
   return new URLSearchParams([...told, ...changedSettings(), ...driven(), ...exerciseToKeep(), ...embedded]).toString();
@@ -19,6 +32,8 @@ function currentAddress() {
 /** Of a machine that is driven how many of the choices are made, where not all are, what is beside it, whether somebody wants the caches
  * in sight, and the step of a lesson. */
 function driven() {
+  const behind = runBehind();
+  if (behind !== null && behind.count < countChoices(behind.choices)) return [['at', String(behind.count)]];
   if (!drive.isOn) return [];
   return [
     ...(drive.count < drive.words.length ? [['at', String(drive.count)]] : []),
@@ -56,21 +71,24 @@ function keepAddress() {
   const address = currentAddress(), isLong = address.length > LONGEST_ADDRESS;
   if (location.hash === '' && (isLong || address === kept.atFirst)) return;
   const isOther = kept.isNew || currentCommand() !== kept.command, put = isOther ? 'pushState' : 'replaceState';
-  window.history[put]({ undoing: undoingToKeep(), list: listToKeep() }, '', isLong ? location.href.split('#')[0] : '#' + address); // none where one that was kept would tell another test
+  const shownAt = isLong ? location.href.split('#')[0] : '#' + address; // none where one that was kept would tell another test
+  window.history[put]({ undoing: undoingToKeep(), ...listToKeep() }, '', shownAt);
   Object.assign(kept, { command: currentCommand(), isNew: false });
 }
 
 /** What the address of a page that is a file is good for. */
 const OF_A_FILE = 'This page is a file here, so the link leads here on this computer alone. For others press Save as a page, and send them that file.';
 
+const NEAR_LINK = '#copied, .tools .page-saved'; // where it is said
+
 /** Copies the address of what is shown. */
 async function copyLink() {
-  const address = `${location.href.split('#')[0]}#${currentAddress()}`;
+  const address = `${location.href.split('#')[0]}#${currentAddress(choicesToTell())}`;
   try {
     await navigator.clipboard.writeText(address);
-    sayDone('#copied', location.protocol === 'file:' ? `Copied. ${OF_A_FILE}` : 'Copied.');
+    sayDone(NEAR_LINK, location.protocol === 'file:' ? `Copied. ${OF_A_FILE}` : 'Copied.');
   } catch {
-    sayDone('#copied', 'This browser doesn\'t let the page copy: copy the address from the address bar.');
+    sayDone(NEAR_LINK, 'This browser doesn\'t let the page copy: copy the address from the address bar.');
   }
 }
 
@@ -109,9 +127,11 @@ function openTest(fragment) {
   putDrive({ beside: besideNamed(told.get('beside')) });
   cachesView.wanted = told.has('caches') ? told.get('caches') === '1' : null;
   forgetOwnRun();
+  const at = /^\d{1,4}$/.test(told.get('at') ?? '') ? Number(told.get('at')) : null;
+  if (currentCommand() !== 'run') takeRunBehind(at);
   answerNow();
   if (LONG.includes(currentCommand()) && byId('said').textContent === '') begin();
-  if (drive.isOn && /^\d{1,4}$/.test(told.get('at') ?? '')) goTo(Number(told.get('at')));
+  if (drive.isOn && at !== null) goTo(at);
   if (/^\d{1,2}$/.test(told.get('step') ?? '')) beginLesson(told.get('lesson'), Number(told.get('step')));
 }
 

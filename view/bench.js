@@ -188,11 +188,8 @@ function showSaid({ status, hint }, said) {
   byId('hint').textContent = pageHint(hint);
 }
 
-/** A text whose first sentence stands out. */
-function firstStrong(text) {
-  const end = text.search(/[.:] [A-Z]/) + 1;
-  return end === 0 ? [html('strong', {}, text)] : [html('strong', {}, text.slice(0, end)), html('span', { class: 'fine' }, text.slice(end))];
-}
+/** What an answer says in the words of litmus tests, folded: who knows these looks for them. */
+const inTerms = text => html('details', { class: 'terms small' }, html('summary', {}, 'In litmus terms'), html('p', {}, text));
 
 /** The heading of an answer's sheet, to which the focus goes. */
 const answerTitle = text => html('h2', { class: 'answer-title', tabindex: -1 }, text);
@@ -210,8 +207,9 @@ function saidInBrief() {
 }
 
 const HIGH = 0.25; // of the window's height: what begins there needs no scrolling
+const TOO_LOW = 0.7; // what begins below it does
 
-/** Puts the focus on the answer that was asked for, and brings it into sight. */
+/** Puts the focus on the answer that was asked for, and brings it into sight. A lesson goes on from it with Next. */
 function focusAnswer() {
   const title = byId('states').querySelector('.answer-title') ?? byId('report');
   const top = lesson.told !== null ? byId('lesson') : byId('way-back').hidden ? title : byId('way-back');
@@ -222,7 +220,7 @@ function focusAnswer() {
     said.id = 'answer-said'; // it is read with the heading
     title.setAttribute('aria-describedby', said.id);
   }
-  title.focus({ preventScroll: true });
+  (lesson.told === null ? title : byId('lesson-next')).focus({ preventScroll: true });
 }
 
 /** Folds the text of an answer that is JSON and that a sheet shows. */
@@ -236,11 +234,15 @@ function showWayBack() {
   byId('way-back').hidden = currentCommand() === 'run';
 }
 
-/** Shows the run again, as it was before the answer. */
+/** Shows the run again, as it was before the answer, with the machine in sight. */
 function backToRun() {
-  if (ownRun.kept !== null) return backToShownRun();
-  putCommand('run');
-  answerNow();
+  if (ownRun.kept !== null) backToShownRun();
+  else {
+    putCommand('run');
+    answerNow();
+  }
+  const { top } = byId('machines').getBoundingClientRect();
+  if (!isLecture() && (top < byId('stepper').offsetHeight || top > TOO_LOW * innerHeight)) byId('run').scrollIntoView({ block: 'start' });
 }
 
 /** Asks a long command about the test, by one click from its run. */
@@ -278,15 +280,16 @@ function loadChoices(choices, found) {
   keepOwnRun();
   const before = JSON.parse(ownRun.kept.settings).find(([name]) => name === 'depth')?.[1] ?? SET_AT_FIRST.depth;
   const depth = Number(found) > 0 && hasRoom(choices, Number(before)) ? before : found;
-  settingOf('depth').value = depth;
+  lendSetting('depth', depth, before);
   settingOf('bus').value = 'atomic';
   putChoices(choices + '\n');
   putCommand('run');
+  ownRun.taken = choices.trim();
+  const isOther = String(before) !== String(depth);
+  showOwnRun(`This is a run of the answer${isOther ? `, with store buffers of depth ${depth} (yours have depth ${before})` : ''}.`);
   const sheet = [...byId('states').children]; // it stays beside the run
   answerNow();
   byId('states').replaceChildren(...sheet);
-  const isOther = String(before) !== String(depth);
-  showOwnRun(`This is a run of the answer${isOther ? `, with store buffers of depth ${depth} (yours have depth ${before})` : ''}.`);
   markShownState(choices);
   byId('stepper').scrollIntoView({ block: 'nearest' });
 }
@@ -297,7 +300,8 @@ function loadText(file) {
   const isOrder = putInput(entry.text);
   endLesson();
   forgetOwnRun();
-  for (const name of ['depth', 'words']) settingOf(name).value = entry[name] ?? SET_AT_FIRST[name];
+  lent.clear();
+  for (const name of ['depth', 'words']) lendSetting(name, entry[name] ?? SET_AT_FIRST[name], SET_AT_FIRST[name]);
   beginAddress();
   putCommand(isOrder ? 'check' : 'run');
   answerNow(true);

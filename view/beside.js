@@ -44,13 +44,16 @@ function putBeside(text) {
   beginDrive(firstHistory(), drive, drive.count);
 }
 
+/** Programs in one line; of each the instruction at a place of `places` is marked. */
+const programLines = (programs, places = []) => programs.map((program, core) => html('span', {}, html('strong', {}, `P${core}`), ' ',
+  ...program.map((text, at) => html('code', at === places[core] ? { class: 'next' } : {}, text))));
+
 /** Where machines stand abreast: the programs, once for all of them, each with its next instruction marked. */
 function showPrograms() {
   const { programs } = firstHistory(), { cores } = firstHistory().machineAfter(drive.count), isAbreast = drive.histories.length > 2;
   byId('programs').hidden = !isAbreast;
   if (!isAbreast) return;
-  const lines = (program, core) => program.map((text, at) => html('code', at === cores[core].place ? { class: 'next' } : {}, text));
-  byId('programs').replaceChildren(...programs.map((program, core) => html('span', {}, html('strong', {}, `P${core}`), ' ', ...lines(program, core))));
+  byId('programs').replaceChildren(...programLines(programs, cores.map(({ place }) => place)));
 }
 
 /** Marks of each machine the lines of its caches, and its sentence, where they differ from those of the first. */

@@ -36,8 +36,8 @@ function wantCaches(isWanted) {
 /** Where a step read its word, as a machine without caches has it: in a store buffer, or in memory. */
 const plainSupply = supply => (supply === null || supply.from === 'buffer' ? supply : { ...supply, from: 'memory', owner: null });
 
-/** A machine in words for readers; `machineName` is for addresses. */
-const machineTitle = options => `${options.protocol.toUpperCase()}, ${options.bus} bus, ${plainMachineName(options)}`;
+/** A machine in words for readers, which a lesson brings one by one; `machineName` is for addresses. */
+const machineTitle = options => `${lesson.told === null ? `${options.protocol.toUpperCase()}, ${options.bus} bus` : 'Caches'}, ${plainMachineName(options)}`;
 
 /** A machine in words that speak of store buffers alone. */
 const plainMachineName = ({ depth }) => (depth === 0 ? 'no store buffers' : `store buffers of ${depth} ${depth === 1 ? 'store' : 'stores'}`);

@@ -22,7 +22,7 @@ function tellsCounts(tso) {
 function countedSentence({ ended, unfinished }, protocol) {
   if (ended === 0) return 'No run ended, so there is nothing to count. Give each seed more choices.';
   const left = unfinished === 0 ? '' : ` ${unfinished} didn’t end and aren’t counted.`;
-  return `${ended === 1 ? 'One run' : `${ended} runs`} by chance, under ${protocol.toUpperCase()}, ended.${left} What happens when a test settles at its end isn’t counted.`;
+  return `${ended === 1 ? 'One run' : `${ended} runs`} by chance, under ${protocol.toUpperCase()}, ended.${left} What goes to memory only when a test has ended isn’t counted.`;
 }
 
 /** A number's sum over the runs, and the least and the greatest of one run. */
@@ -37,10 +37,20 @@ function countsTable(cores) {
     html('td', { class: 'number' }, String(cores.reduce((sum, core) => sum + core[name].sum, 0))))));
 }
 
-/** Shows the answer of `counts --json`. */
-function showCounts(answer) {
-  const { cores, runs } = JSON.parse(answer.text);
+/** The protocols that are counted: that of the settings, and where all stand abreast the others. */
+const countedProtocols = () => [...new Set([valueOf('protocol'), ...(drive.beside === ABREAST ? Tso.PROTOCOLS : [])])];
+
+/** A row for each number, and a column for each protocol: the sum over all cores. */
+function protocolsTable(answers) {
+  const sums = (name, { text }) => String(JSON.parse(text).cores?.reduce((sum, core) => sum + core[name].sum, 0));
+  return tableOf('The sum over the runs and all cores', ['', ...countedProtocols().map(name => name.toUpperCase())], Object.entries(COUNTED).map(([name, words]) =>
+    html('tr', {}, html('th', { scope: 'row', class: 'wraps' }, words), ...answers.map(answer => html('td', { class: 'number' }, sums(name, answer))))));
+}
+
+/** Shows the answers of `counts --json`, one for each protocol. */
+function showCounts(answers) {
+  const [answer] = answers, { cores, runs } = JSON.parse(answer.text), tables = cores === null ? [] : [...(answers.length > 1 ? [protocolsTable(answers)] : []), countsTable(cores)];
   showAnswer(answer);
   foldReport(answer);
-  byId('states').replaceChildren(answerTitle('What the caches did'), html('p', { role: 'status' }, countedSentence(runs, valueOf('protocol'))), ...(cores === null ? [] : [countsTable(cores)]));
+  byId('states').replaceChildren(answerTitle('What the caches did'), html('p', { role: 'status' }, countedSentence(runs, valueOf('protocol'))), ...tables);
 }

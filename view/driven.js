@@ -173,7 +173,7 @@ function stayBeforeStall(stalledBefore) {
   if (at !== undefined && at < drive.count) {
     goTo(at);
     sayOfDriving(`The test is another now: ${at} of your ${known} choices still do the same, and ${drive.words[at]} would do nothing. ` +
-      `Left out: ${drive.words.slice(at).join(' ')}. Forward makes them all the same.`);
+      `Left out: ${drive.words.slice(at).join(' ')}. Forward makes these choices anyway.`);
   } else if (!text.includes('seed') && known > drive.words.length) {
     sayOfDriving(`The test is another now, and ends after ${drive.words.length} of your ${known} choices. ${byId('sentence').textContent}`);
   }

@@ -125,7 +125,7 @@ function cellsOf(line) {
 
 /** Of a test's line that is refused the cell at fault, where the hint begins with one cell of it, or with a word that one cell alone has; else null. */
 function cellAtFault(line, hint) {
-  if (/^X86|[{}]/.test(line)) return null; // no row of programs
+  if (/^X86|[{}]/.test(line) || !/[|;]/.test(line)) return null; // no row of programs
   const said = hint.replace(/^hint: (line \d+: )?'?/, ''), [word] = said.split(/[\s:,]/), cells = cellsOf(line).filter(({ text }) => text !== '');
   const quoted = cells.filter(({ text }) => said.startsWith(text) && !/\w/.test(said[text.length] ?? ''));
   const commaless = said.startsWith('no comma') ? cells.filter(({ text }) => /^\S+\s+[^\s,]+\s+[^,]+$/.test(text)) : [];
@@ -143,14 +143,23 @@ function markCell(cell) {
   mark.style.width = `${cell.text.length}ch`;
 }
 
+const MOST_WORD = 40; // letters of it that are said
+
 /** The refused word of the choices, as it is written. */
 function wordAt(text, number) {
   return text.split(/[ \t\n\r]+/).filter(word => word !== '')[number - 1];
 }
 
-/** What is refused, in plain words: the line, the core whose cell is at fault where the hint tells it, and why. Empty where nothing is. */
-function plainRefusal(place, cell, line) {
-  const why = FAULTS[line.trim().split(' ').at(-1)];
+/** What is refused of the choices, in plain words. */
+function plainChoice(number, name) {
+  const word = wordAt(choicesText(), number)?.slice(0, MOST_WORD) ?? '', why = CHOICE_FAULTS[name]?.(word);
+  return why ? `${choicesText().includes('seed') ? 'Word' : 'Choice'} ${number}, ${word}: ${why}.` : '';
+}
+
+/** What is refused, in plain words: the line, the core whose cell is at fault where the hint tells it, and why, by the hint where there is one. */
+function plainRefusal(place, cell, line, hint) {
+  const name = line.trim().split(' ').at(-1), why = pageHint(hint).replace(/^hint: (line \d+: )?/, '') || FAULTS[name];
+  if (place?.word) return plainChoice(place.word, name);
   if (place?.line === undefined || why === undefined) return '';
   return `${place.field === 'given' ? 'Order, line' : 'Line'} ${place.line}${cell === null ? '' : `, P${cell.core}`}: ${why}.`;
 }
@@ -167,10 +176,17 @@ function focusRefusal() {
 /** Marks what is refused, or nothing, and says it in plain words. */
 function markRefusal({ text: line, hint }) {
   const place = placeOfRefusal(line, hint), cell = place?.field === 'test' ? cellAtFault(byId('test').value.split('\n')[place.line - 1] ?? '', hint ?? '') : null;
-  byId('plain').textContent = plainRefusal(place, cell, line);
+  byId('plain').textContent = plainRefusal(place, cell, line, hint ?? '');
+  byId('told').classList.toggle('by-hint', place?.line !== undefined);
   for (const id of ['test', 'given']) drawLines(id, place?.field === id && place.line ? place.line : null);
   markCell(cell);
   for (const id of ['test', 'choices', 'given']) byId(id).setAttribute('aria-invalid', String(place?.field === id));
-  const word = place?.word ? wordAt(choicesText(), place.word) : undefined;
-  byId('refused-word').textContent = word === undefined ? '' : `Word ${place.word} is ${word}`;
+  byId('remove-choices').hidden = !place?.word;
+}
+
+/** Removes choices that are refused, which shows the machine again. */
+function removeChoices() {
+  putChoices('');
+  answerNow(true);
+  byId('choices').focus({ preventScroll: true });
 }

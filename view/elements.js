@@ -1,5 +1,9 @@
 'use strict';
 
+window.addEventListener('error', ({ message, filename }) => {
+  document.getElementById('message').textContent = `A part of this page failed (${filename.split('/').at(-1)}: ${message}). “The answer as text” has all answers.`;
+});
+
 // Elements. Whatever an input holds becomes text, never markup.
 
 /** Sets attributes. One that is set anew has the browser lay out and paint anew, so it is let be where it is the same. */
@@ -42,6 +46,9 @@ function putChildren(element, children) {
     else if (!there.isEqualNode(child)) there.replaceWith(child);
   });
 }
+
+/** Switches a button off or on. It keeps the focus, so what it does has to look whether it is off. */
+const putOff = (button, isOff) => button.setAttribute('aria-disabled', String(isOff));
 
 /** An element that is drawn anew only where what it shows isn't what it showed. */
 class Part {

@@ -4,8 +4,9 @@
 
 const MOST_ASKED = 400; // characters of the question
 
-/** The exercise that was opened: its test, what is asked, and what the reader thinks, `can` or `cannot`; null before they say it. */
-const exercise = { test: null, asked: '', thought: null };
+/** The exercise that was opened: its test, what is asked, what the reader thinks, `can` or `cannot`, what the test itself asks, and what an answer
+ * said of that thought. What isn't known yet is null. */
+const exercise = { test: null, asked: '', thought: null, question: null, judged: null };
 
 const isExercise = () => exercise.test !== null && exercise.test === byId('test').value && lesson.told === null;
 const isUnanswered = () => isExercise() && exercise.thought === null;
@@ -13,7 +14,9 @@ const isUnanswered = () => isExercise() && exercise.thought === null;
 /** What an address tells of an exercise: it is of the test there. */
 function putExercise(told) {
   const asked = told.get('exercise'), thought = told.get('thought'), test = asked === null ? null : told.get('test');
-  Object.assign(exercise, { test, asked: (asked ?? '').slice(0, MOST_ASKED), thought: ['can', 'cannot'].includes(thought) ? thought : null });
+  const isSame = test === exercise.test && thought === exercise.thought;
+  Object.assign(exercise, { test, asked: (asked ?? '').slice(0, MOST_ASKED), thought: ['can', 'cannot'].includes(thought) ? thought : null, question: null });
+  if (!isSame) exercise.judged = null;
 }
 
 /** What an address keeps of it. */
@@ -27,18 +30,31 @@ function showExercise() {
   if (!isOn) return;
   putText(byId('exercise-asked'), asked === '' ? 'Exercise: what do you think?' : `Exercise: ${asked}`);
   for (const button of byId('exercise').querySelectorAll('button')) {
-    button.disabled = thought !== null;
+    putOff(button, thought !== null); // the one that was pressed keeps the focus
     button.setAttribute('aria-pressed', String(button.dataset.thought === thought));
   }
-  const answered = `You said: ${thought === 'can' ? 'it can be' : 'it can’t be'}. “Why can or can't it be?” tells whether that is so.`;
+  const answered = exercise.judged ?? `You said: ${thoughtSaid()}. “Why can or can't it be?” tells whether that is so.`;
   putText(byId('exercise-thought'), thought === null ? 'Try it below, then say what you think.' : answered);
 }
 
+const thoughtSaid = () => (exercise.thought === 'can' ? 'it can be' : 'it can’t be');
+
 function answerExercise(thought) {
+  if (!isUnanswered()) return;
   exercise.thought = thought;
   showExercise();
   if (drive.isOn) showDrive();
-  byId('ask-why').focus();
+}
+
+/** Whether the task over the test would ask a second time what the exercise asks. */
+const isAskedTwice = () => isExercise() && exercise.asked === (exercise.question ??= questionOf(drive.test));
+
+/** On top of an answer: what the reader had said, and whether it is so. A claim of each run asks another thing. */
+function judgeThought(can) {
+  if (!isExercise() || isUnanswered() || quantifierOf(exercise.test) === 'forall') return [];
+  const isRight = can === (exercise.thought === 'can');
+  exercise.judged = isRight ? `You said ${thoughtSaid()}, and so it is.` : `You said: ${thoughtSaid()}. ${can ? 'It can' : 'It can’t'}.`;
+  return [html('strong', { class: isRight ? 'judged' : 'judged wrong' }, exercise.judged), ' '];
 }
 
 /** What a test asks, to begin with: by its line `Asks=`, or by its condition. */

@@ -100,12 +100,20 @@ function doneWord(history, count) {
 
 /** What is said after a try. */
 function afterTry(history, count, met, quantifier) {
-  if (met === null) return lostSentence(history, count, quantifier);
-  if (!met) return ` ${missedSentence(history, count, quantifier)} ${possible.refuted === drive.test ? 'It can’t be done, as you saw.' : 'Go back, or make other choices.'}`;
+  if (met === null) return isRefuted() ? '' : lostSentence(history, count, quantifier);
+  if (!met) return ` ${missedSentence(history, count, quantifier)}${isRefuted() ? '' : ' Go back, or make other choices.'}`;
   const claim = quantifier === 'exists' ? '' : ' So the claim of the test is wrong.';
   const passes = passesOf(history.order.slice(0, history.momentAfter(count).rows), '').filter(sentence => sentence !== '');
   const more = passes.splice(MOST_PASSES).length, rest = more > 0 ? ` And ${more} more.` : '';
-  return ` ${doneWord(history, count)}${claim} ${passes.join(' ')}${rest}`.trimEnd();
+  const [done, then] = isAnswersRun() ? ['This run shows it.', ' Now make it yourself.'] : [doneWord(history, count), ''];
+  return `${` ${done}${claim} ${passes.join(' ')}${rest}`.trimEnd()}${then}`;
+}
+
+/** The task in words: done, or known to be impossible since an answer said so, or open. */
+function taskWords(quantifier, proposition, isDone, can) {
+  const task = `${CLAIMS[quantifier]}${taskSentence(testName(), proposition, quantifier)}`;
+  if (isDone) return `✓ Task: ${task}`;
+  return isRefuted() ? `${task} It can’t be done: ${quantifier === 'forall' ? 'each' : 'no'} run ends so.` : `☐ ${taskTitle(can)} ${task}`;
 }
 
 /** Shows the task, and when it is met why, by what the loads passed. `run` is the run, where it has ended. After a try that missed what
@@ -117,12 +125,13 @@ function showTask(history, count, run) {
   if (!hasTask) return;
   askPossibleSoon();
   const can = isUnanswered() ? null : canBe(), met = isMet(history, count, run?.condition, quantifier);
-  const task = `${met ? '✓' : '☐'} ${met ? 'Task:' : taskTitle(can)} ${CLAIMS[quantifier]}${taskSentence(testName(), proposition, quantifier)}`;
-  byId('task').classList.toggle('met', met === true);
+  const isDone = met === true && !isAnswersRun(), isAsked = !isDone && isAskedTwice(), after = afterTry(history, count, met, quantifier);
+  byId('task').hidden = isAsked && after === '';
+  byId('task').classList.toggle('met', isDone);
   byId('task').classList.toggle('asked', met !== true && possible.isAsked && !isUnanswered()); // so that its title doesn't change before one's eyes
-  putText(byId('task-said'), task);
+  putText(byId('task-said'), isAsked ? '' : taskWords(quantifier, proposition, isDone, met ? true : can));
   const offers = met === false && can !== true && !isUnanswered() && document.querySelector('#commands [value=why]') !== null;
-  putText(byId('task-after'), afterTry(history, count, met, quantifier));
+  putText(byId('task-after'), after);
   byId('task-why').hidden = !offers;
   putText(byId('task-why'), offers ? 'Why can or can\'t it be?' : '');
 }

@@ -109,7 +109,14 @@ function stepSentences(step, before, programs, isPlain = false) {
   if (step.transaction) sentences.push(`${step.transaction} went on the bus.`);
   if (step.flush) sentences.push(`${step.flush} sent its copy to memory.`);
   if (step.write_back) sentences.push(`The line ${step.write_back} was written back to memory.`);
-  return sentences;
+  return [...sentences, ...takenSentences(step)];
+}
+
+/** That a step took the copies of other cores away: all are of the one line that went on the bus. */
+function takenSentences(step) {
+  const taken = stateChanges(step).filter(({ core, before, after }) => core !== coreOfChoice(step.choice) && before !== 'I' && after === 'I');
+  if (taken.length === 0) return [];
+  return [`${listed(taken.map(({ core }) => `P${core}'s`))} ${taken.length === 1 ? 'copy' : 'copies'} of ${taken[0].line} became invalid.`];
 }
 
 /** The lines whose state a step changed, as `P1.x S→I`, for the panels and for reading. */

@@ -14,6 +14,9 @@ const IN_WORDS_OF_THE_PAGE = [
   ['lower --depth', 'lower --depth (then it is less than TSO)'],
   ['the tool import', 'the program tools/import of a checkout'],
   [' after ====: ', ' of it: '],
+  [/(\d+) stalled: /, '$1 did nothing: '],
+  [/(\d[sd]) \w+ \((\dd) first\)/g, '$1 (it waits for $2)'],
+  [/(\d[sd]) \w+ (\((?:no store|at end|held)\))/g, '$1 $2'],
 ];
 
 /** Why a line is refused, by the program's name for it. */
@@ -25,6 +28,11 @@ const FAULTS = {
   BadInstruction: 'this instruction can’t be read', BadNumber: 'a number is over 4294967295', TwiceInit: 'something gets its value twice',
   NoSuchCore: 'there is no such core',
   TooLarge: 'something is over its limit', BadCondition: 'this doesn’t fit into the condition', Trailing: 'something comes after the end of the test',
+};
+
+/** Why a word of the choices is refused, by the same. */
+const CHOICE_FAULTS = {
+  NoSuchCore: word => `there is no core ${parseInt(word)}`, BadWord: () => 'this is no choice', TooMany: () => 'more choices than this aren’t taken',
 };
 
 /** What was asked last for a notice: the test, and what the hint said. */

@@ -18,6 +18,7 @@ function putLecture(isOn) {
   document.querySelectorAll('[data-lecture]').forEach(nameLecture);
   if (isOn) byId('test-part').open = byId('about').open = false;
   if (shown.run || drive.isOn) redraw();
+  keepList();
   scrollTo(0, 0);
 }
 
@@ -33,9 +34,9 @@ async function toggleLecture() {
   }
 }
 
-/** Opens a list that was saved: several tests are a lecture, so that a clicker steps them at once. */
-function openLecture() {
-  openListed(0);
+/** Opens a list that was saved: several tests are a lecture, so that a clicker steps them at once. After a reload it goes on at its place. */
+function openLecture(at = 0) {
+  openListed(Math.min(Math.max(0, at), taught.list.length - 1));
   if (taught.list.length > 1) putLecture(true);
 }
 
@@ -84,7 +85,7 @@ function clickUnknown() {
 
 /** Steps the cycle that is drawn, the lesson, or the machine; after the end of either comes the next test of the list. */
 function click(isOn) {
-  const { cycle } = sheet, isDrawn = cycle !== null && cycle.element.isConnected && !drive.isOn, isCycleOver = isDrawn && isOn && cycle.shown === cycle.cycle.length;
+  const { cycle } = sheet, isDrawn = cycle?.last > 1 && cycle.element.isConnected && !drive.isOn, isCycleOver = isDrawn && isOn && cycle.shown === cycle.last;
   if (isDrawn && !isOn && cycle.shown === 1 && lesson.told === null) return clickSheet(isOn);
   if (isDrawn && !(isCycleOver && (lesson.told !== null || hasAfter()))) return cycle.move(isOn ? 'next' : 'back');
   if (lesson.told !== null) return clickLesson(isOn);

@@ -19,6 +19,13 @@ const stepNow = () => lesson.told.steps[lesson.at];
 
 /** The number of the step before which the machine begins anew: the last one up to a step that has a test of its own, or the first. */
 const beginOf = (steps, at) => Math.max(0, steps.findLastIndex((step, each) => each <= at && step.test !== undefined));
+/** The place of a step, counted in its part: a step with a test of its own begins another part. */
+function placeSaid(steps, at) {
+  const begins = [0, ...steps.flatMap(({ test }, each) => (test !== undefined && each > 0 ? [each] : [])), steps.length];
+  const part = begins.findLastIndex(each => each <= at);
+  const of = begins.length > 2 ? `, part ${part + 1} of ${begins.length - 1}` : '';
+  return `Step ${at - begins[part] + 1} of ${begins[part + 1] - begins[part]}${of}`;
+}
 /** The choices that the steps before one make, on its test. */
 const choicesBefore = (steps, at) => steps.slice(beginOf(steps, at), at).flatMap(step => step.do ?? []);
 /** What a step's machine is made of: the lesson, or the step's own test in its place. */
@@ -43,7 +50,8 @@ function beginLesson(name, at = 0) {
   cachesView.wanted = told.caches ? true : null;
   byId('about').open = byId('test-part').open = false;
   enterStep(Math.min(Math.max(0, at), told.steps.length - 1));
-  byId('lesson-title').focus();
+  byId('lesson').scrollIntoView({ block: 'nearest' });
+  focusStep({ preventScroll: true });
 }
 
 /** Puts the test of a lesson into the fields, with the choices that are made there. */
@@ -75,6 +83,7 @@ function endLesson() {
   cachesView.wanted = null;
   drawLesson();
   if (drive.isOn) showDrive();
+  showTestLine(currentCommand());
   keepAddressSoon();
 }
 
@@ -128,6 +137,7 @@ function refuseInLesson(wanted) {
   const now = wanted ? `The lesson goes on with ${wanted}` : lesson.isDone ? 'The lesson goes on with Next' : 'First answer here';
   putLesson({ refused: `${now}. Leave the lesson to go your own way.` });
   drawLesson();
+  focusStep({ preventScroll: true });
 }
 
 /** Whether a lesson tells what happens, so that the sentence over the machine needn't. At its last step each choice is free. */
@@ -157,6 +167,7 @@ function showInLesson() {
   const { act } = LESSON_SHOWS[stepNow().show];
   putLesson({ isDone: true, refused: '' });
   drawLesson();
+  byId('lesson-next').focus({ preventScroll: true });
   act();
 }
 
@@ -165,7 +176,7 @@ function showInLesson() {
 /** What is said after an answer: whether it is right, where there is a right one, and why. */
 function judgedAnswer({ right, because }, answer) {
   if (right === undefined) return because;
-  return `${answer === right ? 'Right.' : `No. The answer is “${right}”.`} ${because}`;
+  return `${answer === right ? 'Right.' : `Not so: the answer is “${right}”.`} ${because}`;
 }
 
 /** Says what a step tells, and when it is done what came of it. */
@@ -186,7 +197,7 @@ function lessonButtons() {
   const button = (attributes, text, isOff) => html('button', { type: 'button', ...attributes, ...(isOff ? { disabled: '' } : {}) }, text);
   return [
     ...answers.map(answer => button({ 'data-answer': answer, 'aria-pressed': String(answer === lesson.answer) }, answer, lesson.answer !== null)),
-    ...(show === undefined ? [] : [button({ 'data-show': show, class: 'main' }, LESSON_SHOWS[show].says)]),
+    ...(show === undefined ? [] : [button({ 'data-show': show, class: lesson.isDone ? '' : 'main' }, LESSON_SHOWS[show].says)]),
   ];
 }
 
@@ -221,7 +232,7 @@ function drawLesson() {
   if (!isOn) return;
   putText(byId('lesson-title'), lesson.told.steps[beginOf(lesson.told.steps, lesson.at)].title ?? lesson.told.title);
   const { do: word, ask: question } = stepNow(), first = lesson.isDone ? '' : word !== undefined ? `: first press ${word}` : question !== undefined ? ': first give an answer' : ': first press the button';
-  putText(byId('lesson-place'), `Step ${lesson.at + 1} of ${lesson.told.steps.length}${first}`);
+  putText(byId('lesson-place'), placeSaid(lesson.told.steps, lesson.at) + first);
   showSentences();
   byId('lesson-answers').replaceChildren(...lessonButtons());
   showNext();
@@ -240,8 +251,9 @@ function goOn() {
 }
 
 /** Puts the focus on what a step waits for. */
-function focusStep() {
-  (document.querySelector('[data-choice].wanted') ?? byId('lesson-answers').querySelector('button') ?? byId('lesson-next')).focus();
+function focusStep(how) {
+  const waited = lesson.isDone ? null : document.querySelector('[data-choice].wanted') ?? byId('lesson-answers').querySelector('button');
+  (waited ?? byId('lesson-next')).focus(how);
 }
 
 /** Brings the list of all lessons into sight, open. */

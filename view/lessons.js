@@ -16,6 +16,7 @@ const LESSONS = [
       {
         do: '0s',
         say: 'Let P0 take its first step. Press the button 0s, “step MOV [x],$1”.',
+        look: 'picture',
         then: 'The store x=1 waits in P0’s store buffer. Memory has not seen it: x is still 0 there. In the picture it is the bar; 0 is its place in ' +
           'the program.',
       },
@@ -57,8 +58,9 @@ const LESSONS = [
           'every order of steps and drains.',
       },
       {
-        say: 'There are four outcomes. One is marked “TSO alone”: under sequential consistency, where no core has a store buffer, at least one of the loads ' +
-          'reads 1. A load may pass an earlier store of its own core. TSO lets nothing else pass.',
+        say: 'There are four outcomes. One is marked “TSO alone”. Under sequential consistency no core has a store buffer: that is as if the cores took ' +
+          'turns, each store at once in memory, and then at least one of the loads reads 1. A load may pass an earlier store of its own core. TSO lets ' +
+          'nothing else pass.',
       },
       {
         test: 'X86 OWN\n{ x=0; }\n P0          | P1          ;\n MOV [x],$1  | MOV EAX,[x] ;\n MOV [x],$2  |             ;\n MOV EAX,[x] |             ;\n',
@@ -164,8 +166,10 @@ const LESSONS = [
       },
       {
         say: 'Each copy has a state. M, modified: the only copy, and newer than memory. S, shared: others may have copies too. I, invalid: no copy. A core ' +
-          'may write a line only if it has the only copy. These three states give the protocol its name, MSI. MESI adds E, exclusive: ' +
-          'the only copy, as memory has it.',
+          'may write a line only if it has the only copy.',
+      },
+      {
+        say: 'The protocol of these three states is MSI. Others have more: MESI adds E, exclusive, the only copy, as memory has it.',
       },
       { say: 'In this test P0 only uses x, and P1 only uses y. They share no variable, but x and y lie in one line. Do the two cores disturb each other?' },
       { do: '0s', say: 'P0 stores x: 0s.', then: 'The store waits in the buffer, as before. The caches have nothing yet.' },

@@ -12,9 +12,9 @@ function showRefusalAlone(command) {
   const isLive = command === 'why' && !isRefused && bench.took < QUICK;
   const isAnswered = byId('states').childElementCount > 0 && bench.answer?.text.startsWith('{');
   clearTimeout(bench.again);
-  if (isLive && isAnswered) bench.again = setTimeout(() => currentCommand() === 'why' && begin({ isAgain: true }), TYPING);
-  else showAnswer(isRefused ? answer : { status: 0, text: '', hint: '' });
-  if (!isRefused && !(isLive && isAnswered)) byId('states').replaceChildren(html('p', { class: 'faint to-begin' }, `Press “${BEGINS[command]}”.`));
+  if (isLive) bench.again = setTimeout(() => currentCommand() === 'why' && begin({ isAgain: true }), TYPING);
+  if (!(isLive && isAnswered)) showAnswer(isRefused ? answer : { status: 0, text: '', hint: '' });
+  if (!isRefused && !isLive) byId('states').replaceChildren(html('p', { class: 'faint to-begin' }, `Press “${BEGINS[command]}”.`));
 }
 
 function stopTask() {
@@ -39,7 +39,7 @@ async function begin({ isAgain } = {}) {
     if (bench.task !== task) return;
     stopTask();
     if (command === 'why') bench.took = Date.now() - began;
-    showLong(command, answers, options, input);
+    drawLong(command, answers, options, input);
     if (bench.answer.status === Tso.STATUS.refused) focusRefusal();
     else if (command !== 'run' && !saidInBrief()) focusAnswer();
   } catch (fault) {
@@ -49,13 +49,24 @@ async function begin({ isAgain } = {}) {
   }
 }
 
+/** Shows the answer to a long command; as text, where its drawing fails. */
+function drawLong(command, answers, options, input) {
+  try {
+    showLong(command, answers, options, input);
+  } catch (fault) {
+    showAnswer(answers[0]);
+    byId('states').replaceChildren(answerTitle('The answer as text'), html('p', { role: 'status' }, `This part couldn't be drawn (${fault.message}). The answer as text is below.`));
+    byId('report-part').open = true;
+  }
+}
+
 /** Shows the answer to a long command. */
-function showLong(command, [answer, beside], options, input) {
-  const isGood = answer.status === Tso.STATUS.good, isUnended = answer.status === Tso.STATUS.unended;
+function showLong(command, answers, options, input) {
+  const [answer, beside] = answers, isGood = answer.status === Tso.STATUS.good, isUnended = answer.status === Tso.STATUS.unended;
   if (command === 'run') showLongRun(answer, beside, options, input);
   else if (command === 'outcomes' && isGood) showOutcomes(answer, beside, input);
   else if (command === 'outcomes' && isUnended) showMet(answer, options.depth);
-  else if (command === 'counts' && (isGood || isUnended)) showCounts(answer);
+  else if (command === 'counts' && (isGood || isUnended)) showCounts(answers);
   else if (command === 'why' && isGood) showReason(answer, input);
   else if (command === 'why' && isUnended) showUnfinished(command, answer);
   else showOpenAnswer(answer);
@@ -72,7 +83,8 @@ function showUnfinished(command, answer) {
 function questionsOf(command, options) {
   if (command === 'run') return [options, { ...options, json: true }];
   if (command === 'outcomes') return [{ ...options, json: true }, ...(options.depth > 0 ? [{ ...options, depth: 0, json: true }] : [])];
-  return [['counts', 'why'].includes(command) ? { ...options, json: true } : options];
+  if (command === 'counts') return countedProtocols().map(protocol => ({ ...options, protocol, json: true }));
+  return [command === 'why' ? { ...options, json: true } : options];
 }
 
 function showLongRun(answer, line, options, input) {
@@ -91,16 +103,26 @@ function showOutcomes(answer, beside, test) {
   const outcomes = readOutcomes(answer.text), sequential = beside?.status === Tso.STATUS.good ? readOutcomes(beside.text) : null;
   showAnswer(answer);
   foldReport(answer);
-  const said = [observationSentence(outcomes, test), sequential ? besideSentence(outcomes, sequential) : ''].join(' ').trim();
+  const full = outcomes.depth === 32 ? 'Whatever the depth of your run: here buffers hold 32 stores, so they are never full.' : '';
+  const fine = [html('span', { class: 'fine' }, ` ${full} ${sequential ? besideSentence(outcomes, sequential) : ''}`)];
+  const said = html('p', { role: 'status' }, ...judgedOutcomes(outcomes, test), html('strong', {}, observationSentence(outcomes, test)), ...fine);
   const sheetOfAll = statesSheet(outcomes, sequential, truthsOf(outcomes, test));
-  byId('states').replaceChildren(answerTitle('All outcomes'), html('p', { role: 'status' }, ...firstStrong(said)), ...sheetOfAll);
+  byId('states').replaceChildren(answerTitle('All outcomes'), said, ...outcomesInTerms(outcomes, sequential), ...sheetOfAll);
+}
+
+/** Notes whether all outcomes of TSO say that the task can't be done, and judges what the reader of an exercise had said. */
+function judgedOutcomes({ observation, depth }, test) {
+  if (observation === null || depth !== SET_AT_FIRST.searched) return [];
+  const can = (quantifierOf(test) === 'forall' ? observation.false : observation.true) > 0;
+  if (!can) possible.refuted = test;
+  return judgeThought(can);
 }
 
 /** Shows what a search had met when it came to its limit or was stopped: some of the final states, or none. */
 function showMet(answer, depth, isStopped = false) {
   const met = readMet(answer.text);
   if (met.states.length === 0) return showUnfinished('outcomes', answer);
-  showAnswer(answer);
+  showAnswer(isStopped ? { ...answer, hint: '' } : answer); // no limit was met
   foldReport(answer);
   const truths = met.states.every(({ holds }) => typeof holds === 'boolean') ? met.states.map(({ holds }) => holds) : null;
   const said = html('p', { role: 'status' }, metSentence(met, isStopped));

@@ -8,14 +8,19 @@ function readOutcomes(text) {
   return { states, observation, verdict, unfinished, depth };
 }
 
-/** The sentence on top: in plain words how many states are as the condition says, and after it the words of the field. `test` is the text of
- * the test, whose condition has the words. */
-function observationSentence({ states, observation, verdict, depth }, test) {
-  const full = lesson.told === null && !isLecture() ? ' (buffers of 32 stores, so never full)' : '';
-  const where = depth === 32 ? `under TSO${full}` : depth === 0 ? 'under sequential consistency' : `with store buffers of depth ${depth}`;
-  if (observation === null) return `${states.length === 1 ? 'One outcome' : `${states.length} outcomes`} ${where}. The test has no condition.`;
+/** The sentence on top: in plain words how many states are as the condition says. `test` is the text of the test, whose condition has the words. */
+function observationSentence({ states, observation, depth }, test) {
+  const where = depth === 32 ? 'under TSO' : depth === 0 ? 'under sequential consistency' : `with store buffers of depth ${depth}`;
+  if (observation === null) return `${states.length === 1 ? 'One outcome' : `${states.length} outcomes`} ${where}.`;
+  return countSentence(states.length, observation.true, where, test);
+}
+
+/** The same in the words of the field, for both models; nothing where the test has no condition. */
+function outcomesInTerms({ observation, verdict }, sequential) {
+  if (observation === null) return [];
   const { word, true: yes, false: no } = observation;
-  return `${countSentence(states.length, yes, where, test)} Observation: ${word} (true in ${yes}, false in ${no}).${verdictWords(verdict)}`;
+  const other = sequential ? ` Under sequential consistency the observation is ${sequential.observation.word}.` : '';
+  return [inTerms(`Observation: ${word} (true in ${yes}, false in ${no}).${verdictWords(verdict)}${other}`)];
 }
 
 /** How many of the states are as the condition says. Where it asks whether any is, the sentence begins with yes or no. */
@@ -54,9 +59,9 @@ const valuesText = values => Object.entries(values).map(([name, word]) => `${nam
 /** What stands beside the states of TSO: how many sequential consistency has, and which are new. */
 function besideSentence(outcomes, sequential) {
   const isNew = newStates(outcomes, sequential), count = isNew.filter(Boolean).length;
-  const word = sequential.observation === null ? '' : ` (observation ${sequential.observation.word})`;
+  const none = outcomes.observation === null ? 'The test has no condition. ' : '';
   const many = sequential.states.length === 1 ? 'one outcome' : `${sequential.states.length} outcomes`;
-  return `Sequential consistency has ${many}${word}: ${count === 0 ? 'none is new here' : `${count} ${count === 1 ? 'is' : 'are'} new here`}.`;
+  return `${none}Sequential consistency has ${many}: ${count === 0 ? 'none is new here' : `${count} ${count === 1 ? 'is' : 'are'} new here`}.`;
 }
 
 /** Of each state whether sequential consistency lacks it. */
@@ -94,7 +99,7 @@ function outcomesTable(outcomes, sequential, truths) {
   const { states } = outcomes, names = Object.keys(states[0].values), isNew = sequential && newStates(outcomes, sequential);
   const titles = [...names, ...(sequential ? ['Under'] : []), ...(truths ? ['Condition'] : []), 'Choices that lead there', ''];
   const sheet = tableOf('Final states', titles, states.map(({ values, choices }, at) => html('tr', truths?.[at] ? { class: 'met' } : {},
-    ...names.map(name => html('td', { class: 'number' }, String(values[name]))),
+    ...names.map(name => html('td', { class: 'number', 'data-name': name }, String(values[name]))),
     ...(sequential ? [html('td', { class: 'unbroken' }, isNew[at] ? html('strong', {}, 'TSO alone') : 'TSO and SC')] : []),
     ...(truths ? [html('td', {}, truths[at] ? '✓ true' : 'false')] : []),
     html('td', { class: 'wraps way' }, ...foldedChoices(choices)),
@@ -109,7 +114,7 @@ function neverRow(names, columns, truths) {
   const { proposition } = readTest(inputOf('outcomes')), wanted = truths?.every(truth => !truth) && proposition !== null ? wantedWords(proposition) : null;
   const words = new Map(wanted?.map(({ core, register, location, word }) => [location ?? `${core}:${register}`, word]));
   if (wanted === null || !names.every(name => words.has(name)) || words.size !== names.length) return [];
-  const cells = names.map(name => html('td', { class: 'number' }, html('s', {}, String(words.get(name)))));
+  const cells = names.map(name => html('td', { class: 'number', 'data-name': name }, html('s', {}, String(words.get(name)))));
   const never = html('td', { colspan: columns - names.length, class: 'prose' }, html('strong', {}, 'never'), ', in no run');
   return [html('tfoot', {}, html('tr', { class: 'never' }, ...cells, never))];
 }

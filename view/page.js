@@ -7,12 +7,31 @@ const BEGINS_TEST = /^X86[ \t]/;
 const FIRST_TEXT = 'store-buffering.litmus';
 const WRITTEN = ['test', 'choices', 'given'];
 
+/** The name of a test, and its row of cores. */
+const testHead = text => `${text.match(/^X86.*/)} ${text.match(/^\s*P0\b.*;/m)}`.replace(/\s/g, '');
+
+/** Whether a test came in the place of another at once: with another name or other cores, and more than one other line. */
+function isOtherTest(before, after) {
+  const [old, now] = [before, after].map(text => text.trim().split('\n'));
+  return testHead(before) !== testHead(after) && Math.max(old.length, now.length) - now.filter((line, at) => line === old[at]).length > 1;
+}
+
+/** Takes away what belongs to the test before. Answers whether it had choices. */
+function beginOtherTest() {
+  const hadChoices = choicesText().trim() !== '';
+  putChoices('');
+  takeBackLent();
+  return hadChoices;
+}
+
 /** What one writes takes the place of an answer's run, and one stays at one's place. */
 function writeOn({ target }) {
+  const isCleared = target.id === 'test' && undoing.now !== null && isOtherTest(undoing.now.test, target.value) && beginOtherTest();
   const stalled = drive.isOn ? stallsOf(firstHistory()) : [];
   forgetOwnRun();
   keepPosition(answerNow);
-  if (target.id === 'test' && drive.isOn) stayBeforeStall(stalled);
+  if (isCleared && drive.isOn) sayOfDriving(`Another test: the choices of the one before are gone. Undo brings them back. ${byId('sentence').textContent}`);
+  else if (target.id === 'test' && drive.isOn) stayBeforeStall(stalled);
 }
 
 /** A text that came in as a whole: a test goes to the bench, and any other is a line of a run. */
@@ -25,6 +44,7 @@ function takeText(text) {
   forgetOwnRun();
   endLesson();
   putDrive({ beside: null });
+  takeBackLent();
   const isOrder = putInput(text);
   putCommand(isOrder ? 'check' : 'run');
   answerNow();
@@ -95,13 +115,14 @@ document.addEventListener('pointerdown', event => {
   if (choice !== undefined) askAhead(choice);
 });
 document.addEventListener('click', event => {
-  const { move: way, choices, depth, file, save, machine, choice, stall, judge, cycle, edges } = (event.target.closest('[data-choice]') ?? event.target).dataset;
+  const { copyLink: link, move: way, choices, depth, file, save, machine, choice, stall, judge, cycle, edges } = (event.target.closest('[data-choice]') ?? event.target).dataset;
   if (way !== undefined) move(way);
   else if (choice !== undefined) makeChoice(choice);
   else if (stall !== undefined) makeChoice(stall, true);
   else if (choices !== undefined) loadChoices(choices, depth);
   else if (file !== undefined) takeFromLibrary(file);
   else if (save !== undefined) SAVES[save]();
+  else if (link !== undefined) copyLink();
   else if (machine !== undefined) takeMachine(machine);
   else if (judge !== undefined) judgeOrder(judge);
   else if (cycle !== undefined) drawCycle(Number(cycle));
@@ -130,7 +151,10 @@ byId('commands').addEventListener('change', () => {
   showSettings(currentCommand());
   answerNow();
 });
-byId('settings').addEventListener('input', () => keepPosition(answerNow));
+byId('settings').addEventListener('input', ({ target }) => {
+  lent.delete(target.id.slice('set-'.length));
+  keepPosition(answerNow);
+});
 byId('begin').addEventListener('click', begin);
 byId('skip').addEventListener('click', event => {
   event.preventDefault(); // what stands after # in the address is a test
@@ -149,6 +173,7 @@ byId('to-run').addEventListener('click', backToRun);
 byId('find-outcomes').addEventListener('click', findOutcomes);
 byId('ask-why').addEventListener('click', askWhy);
 byId('copy-link').addEventListener('click', copyLink);
+byId('remove-choices').addEventListener('click', removeChoices);
 byId('search').addEventListener('input', showLibrary);
 byId('comparison').addEventListener('toggle', () => bench.tso && compareNow());
 for (const scrolled of [window, byId('frame')]) scrolled.addEventListener('scroll', () => (shown.run || drive.isOn) && placeNames(), { passive: true });
@@ -185,12 +210,12 @@ async function start() {
     return;
   }
   beginTeaching(told);
-  if (taught.list.length > 0 && location.hash === '') openLecture(); // that was saved
+  if (taught.list.length > 0 && location.hash === '') openLecture(keptState?.listed); // that was saved
   else if (isOfTest) showAddress();
   const isOpen = drive.isOn || shown.run || bench.task !== null || bench.answer !== null;
   if (!isOpen && byId('line').value === '') beginAtFirst();
   takeUndoing(keptState);
-  if (keptState?.list?.length > 0) takeKeptList(keptState);
+  if (keptState !== null) takeKeptList(keptState);
   remember();
 }
 
@@ -205,7 +230,7 @@ function beginAtFirst() {
 /** Shows what the page is about, its lessons, and what a saved page brings along. It is folded where somebody was led to a test. */
 function beginTeaching(told) {
   byId('about').hidden = false;
-  byId('about').open = told === '' || (told === savedAddress() && !told.includes('choices='));
+  byId('about').open = told === '' || (told === savedAddress() && !/choices=|exercise=/.test(told));
   drawLessons();
   takeSavedTaught();
 }

@@ -63,16 +63,18 @@ function followShown() {
   if (playlist.isEntry !== isEntry) drawBar(isEntry);
 }
 
-/** The list, for what the browser keeps with the address: so it is there again after a reload. */
-const listToKeep = () => (JSON.stringify(taught.list).length <= MOST_LISTED ? taught.list : []);
+/** What the browser keeps with the address, so that it is there again after a reload: the list, which of it is shown, and whether in a lecture. */
+const listToKeep = () => ({ list: JSON.stringify(taught.list).length <= MOST_LISTED ? taught.list : [], listed: playlist.at, isLecture: isLecture() });
 
 /** Keeps the list with the address that the browser has. */
-const keepList = () => window.history.replaceState({ ...window.history.state, list: listToKeep() }, '');
+const keepList = () => window.history.replaceState({ ...window.history.state, ...listToKeep() }, '');
 
-/** Takes the list from what the browser kept, after a reload. */
-function takeKeptList(state) {
-  if (!Array.isArray(state?.list)) return;
-  tryTaught(JSON.stringify({ list: state.list }), () => {});
+/** Takes the list from what the browser kept, after a reload, and goes on with the lecture, if there was one. */
+function takeKeptList({ list, listed, isLecture: wasLecture }) {
+  if (Array.isArray(list) && list.length > 0) tryTaught(JSON.stringify({ list }), () => {});
+  if (Number.isInteger(listed)) playlist.at = Math.min(Math.max(-1, listed), taught.list.length - 1);
+  if (wasLecture === true) putLecture(true);
+  drawList();
 }
 
 function dropFromList(at) {

@@ -41,7 +41,7 @@ function falseSentence(places) {
 
 /** What closes a case says. */
 const CLOSING_SENTENCES = {
-  cycle: ({ cycle }) => `It can't be: ${cycle[0].from} would be before itself.`,
+  cycle: ({ cycle }) => `It can't be: ${cycle[0].from} would be before itself in memory order.`,
   uniproc: ({ cycle }) => `It can't be: among the accesses to one location, ${cycle[0].from} would be before itself.`,
   between: ({ between, read }) => `It can't be: ${between} would come between the two parts of the locked instruction ${read.split(' ')[0]}.`,
   false: ({ places }) => falseSentence(Object.entries(places)),
@@ -137,8 +137,9 @@ const cyclesOf = steps => steps.map((step, at) => ({ cycle: closingOf(step).cycl
 function treeList(nodes, steps, isOpen) {
   return html('ul', { class: 'cases' }, ...nodes.map(({ step, parts }) => {
     if (parts) return html('li', {}, html('details', isOpen ? { open: '' } : {}, html('summary', {}, stepSentence(step)), treeList(parts, steps, isOpen)));
-    const draw = closingOf(step).cycle ? [' ', html('button', { type: 'button', 'data-cycle': steps.indexOf(step), 'aria-pressed': 'false' }, 'Draw it')] : [];
-    return html('li', { class: `step-${step.step}` }, stepSentence(step), ...draw);
+    const at = steps.indexOf(step);
+    const draw = closingOf(step).cycle ? [' ', html('button', { type: 'button', 'data-cycle': at, 'aria-pressed': 'false' }, 'Draw it')] : [];
+    return html('li', { class: `step-${step.step}`, 'data-step': at }, stepSentence(step), ...draw);
   }));
 }
 
@@ -189,13 +190,17 @@ function wayBack(start, leaving) {
   return way.map(({ edge }) => edge);
 }
 
-/** A shortest cycle of an execution's edges and program order, which sequential consistency forbids; empty where there is none. */
+/** A shortest cycle of an execution's edges and program order, which sequential consistency forbids; empty where there is none. It begins with an order
+ * that TSO doesn't keep. */
 function forbiddenCycle(edges, programs) {
   const stepOf = edge => ({ edge, from: nameOfEvent(edge.from), to: nameOfEvent(edge.to) }), leaving = new Map();
   const steps = [...edges, ...edgesOfPrograms(edges, programs)].map(stepOf);
   for (const step of steps) leaving.set(step.from, [...(leaving.get(step.from) ?? []), step]);
   const ways = [...leaving.keys()].map(event => wayBack(event, leaving)).filter(way => way !== null);
-  return ways.sort((one, other) => one.length - other.length)[0] ?? [];
+  const [cycle = []] = ways.sort((one, other) => one.length - other.length);
+  const [first] = cycle.filter(({ relation }) => relation === 'unkept').map(({ from }) => from).sort();
+  const at = Math.max(0, cycle.findIndex(({ from }) => from === first));
+  return [...cycle.slice(at), ...cycle.slice(0, at)];
 }
 
 /** Whether a run's order is the execution of an answer: each read has the same source, and the writes to each location come in the same order. */

@@ -10,6 +10,7 @@ const RELATIONS = {
   },
   unkept: {
     label: 'po, not kept',
+    short: 'po ✗',
     means: 'Program order from a store to a later load of another location: TSO doesn’t keep it. If it did, the arrows would close a cycle.',
     says: (from, to) => `${from} stands before ${to} in the program of its core, and TSO doesn’t keep that order.`,
   },
@@ -59,8 +60,8 @@ function meaningOf(name, edges) {
   return name === 'po' && locations.size === 1 ? 'Program order: accesses of one core to one location always keep it.' : relationNamed(name).means;
 }
 
-/** The letters that stand at a relation's arrows. */
-const letterOf = name => relationNamed(name).label ?? name;
+/** The letters that stand at a relation's arrows, in a picture of narrow lanes fewer. */
+const letterOf = (name, isNarrow = false) => (isNarrow && relationNamed(name).short) || (relationNamed(name).label ?? name);
 
 const relationNamed = name => (Object.hasOwn(RELATIONS, name) ? RELATIONS[name] : UNKNOWN_RELATION);
 const edgeSentence = ({ from, relation, to }) => relationNamed(relation).says(from, to);

@@ -107,9 +107,15 @@ function edgeWays(layout, edges) {
 const overlap = (one, other) => one.x < other.x + other.width && other.x < one.x + one.width && one.y < other.y + other.height && other.y < one.y + one.height;
 const holds = (box, [x, y]) => x > box.x && x < box.x + box.width && y > box.y && y < box.y + box.height;
 
-/** The rectangle of a chip of some letters around a point, within the picture. */
+/** From where to where a chip around a point may reach: of narrow lanes through the gutter in which it lies, else through the picture. */
+function roomOfChip({ isNarrow, margin, lane, side, width }, x) {
+  const middle = margin + lane * Math.round((x - margin) / lane);
+  return isNarrow && Math.abs(x - middle) < side ? [Math.max(0, middle - side), Math.min(width, middle + side)] : [0, width];
+}
+
+/** The rectangle of a chip of some letters around a point. */
 function chipAt(layout, [x, y], letters) {
-  const width = letters * ROUTES.letter + ROUTES.around, centre = Math.min(Math.max(x, width / 2 + 2), layout.width - width / 2 - 2);
+  const width = letters * ROUTES.letter + ROUTES.around, [from, to] = roomOfChip(layout, x), centre = Math.min(Math.max(x, from + width / 2 + 2), to - width / 2 - 2);
   return { x: centre - width / 2, y: y - ROUTES.chip / 2, width, height: ROUTES.chip };
 }
 
@@ -119,14 +125,17 @@ function chipPoints(points) {
   return parts.map(part => points[Math.round(part * (points.length - 1))]);
 }
 
-/** Where the chip of each edge stands. */
+/** Where the chip of each edge stands, and whether none covers anything. */
 function chipsOf(layout, edges, ways) {
   const chips = [];
+  let isClear = true;
   edges.forEach(({ relation }, at) => {
     const others = ways.filter((_, other) => other !== at).flatMap(({ points }) => points);
     const cost = chip => 100 * [...layout.words, ...layout.boxes.values()].filter(part => overlap(chip, part)).length + 50 * chips.filter(other => overlap(chip, other)).length + others.filter(point => holds(chip, point)).length;
-    const found = chipPoints(ways[at].points).map(point => chipAt(layout, point, letterOf(relation).length)).map(chip => ({ chip, cost: cost(chip) }));
-    chips.push(found.reduce((best, each) => (each.cost < best.cost ? each : best)).chip);
+    const found = chipPoints(ways[at].points).map(point => chipAt(layout, point, letterOf(relation, layout.isNarrow).length)).map(chip => ({ chip, cost: cost(chip) }));
+    const { chip, cost: least } = found.reduce((best, each) => (each.cost < best.cost ? each : best));
+    isClear &&= least === 0;
+    chips.push(chip);
   });
-  return chips;
+  return { chips, isClear };
 }

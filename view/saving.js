@@ -39,7 +39,7 @@ function pictureNow() {
 function withWholeCycle(act) {
   const { cycle } = sheet, shownNow = cycle?.shown;
   if (!cycle?.element.isConnected) return act();
-  cycle.show(cycle.cycle.length);
+  cycle.show(cycle.last);
   cycle.picture.querySelectorAll('.now').forEach(edge => edge.classList.remove('now'));
   act();
   return cycle.show(shownNow);

@@ -81,6 +81,20 @@ function putSettings(pairs) {
   }
 }
 
+/** The settings that an example or a run of an answer set: each with its value, and with the one that comes back with another test. */
+const lent = new Map();
+
+function lendSetting(name, value, own) {
+  lent.set(name, { value: String(value), own: lent.get(name)?.own ?? String(own) });
+  settingOf(name).value = value;
+}
+
+/** Takes settings back that the reader's hand didn't set. */
+function takeBackLent() {
+  for (const [name, { value, own }] of lent) if (settingOf(name).value === value) settingOf(name).value = own;
+  lent.clear();
+}
+
 /** Chooses a command, with its fold open. */
 function putCommand(name) {
   const choice = document.querySelector(`#commands input[value=${commandOf(name)}]`);

@@ -58,7 +58,10 @@ function depthNote({ states, depth }) {
 }
 
 /** What the names of places and of choices mean, by one of each. */
-const KEY = '0:EAX is the register EAX of P0. In the choices 0s lets P0 take its next step, and 0d drains its oldest store.';
+function keySaid(names) {
+  const [name, core, register] = names.map(each => /^(\d):(\w+)$/.exec(each)).find(found => found !== null) ?? [];
+  return `${name === undefined ? '' : `${name} is the register ${register} of P${core}. `}In the choices 0s lets P0 take its next step, and 0d drains its oldest store.`;
+}
 
 /** The table of states with what sorts and filters it. */
 function statesSheet(outcomes, sequential, truths) {
@@ -69,9 +72,11 @@ function statesSheet(outcomes, sequential, truths) {
   const alone = sequential ? [html('label', {}, html('input', { class: 'alone', type: 'checkbox' }), ' TSO alone')] : [];
   const tools = html('div', { class: 'buttons small' }, html('label', {}, 'Filter ', filter), ...alone, html('span', { class: 'filtered', role: 'status' }));
   const more = html('button', { type: 'button', class: 'more-rows', hidden: '' });
-  const words = sequential ? [html('p', { class: 'small faint' }, '“TSO alone”: it needs store buffers. SC is sequential consistency: no store buffers.')] : [];
-  const key = html('p', { class: 'small faint key' }, KEY);
-  const sheet = html('div', { class: 'states-sheet' }, ...words, ...(outcomes.states.length > 1 ? [tools] : []), ...depthNote(outcomes), table, more, key);
+  const isAlone = sequential !== null && newStates(outcomes, sequential).includes(true);
+  const words = sequential ? [html('p', { class: 'small faint alone-said' }, `${isAlone ? '“TSO alone”: it needs store buffers. ' : ''}SC is sequential consistency: no store buffers.`)] : [];
+  const key = html('p', { class: 'small faint key' }, keySaid(Object.keys(outcomes.states[0].values)));
+  const programs = html('p', { class: 'programs' }, ...programLines(readTest(inputOf('outcomes')).programs));
+  const sheet = html('div', { class: 'states-sheet' }, programs, ...words, ...(outcomes.states.length > 1 ? [tools] : []), ...depthNote(outcomes), table, more, key);
   if (outcomes.states.length > 1) filterStates(sheet);
   return [sheet];
 }

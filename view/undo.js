@@ -100,14 +100,27 @@ function showUndoing() {
 
 // One's own run, which an answer's run takes the place of.
 
-/** One's own run (`kept`), and the answer's run that was shown when something was asked (`shown`), each null where there is none. */
-const ownRun = { kept: null, shown: null };
+/** One's own run (`kept`), the answer's run that was shown when something was asked (`shown`), and the choices of an answer that were taken last
+ * (`taken`), each null where there is none. */
+const ownRun = { kept: null, shown: null, taken: null };
+
+/** Whether the run that is driven is an answer's, and not one's own again. */
+const isAnswersRun = () => !byId('own-run').hidden && choicesText().trim() === ownRun.taken && ownRun.taken !== madeBefore();
+
+/** The choices that were made of one's own run. */
+const madeBefore = () => ownRun.kept.choices.trim().split(/\s+/).slice(0, ownRun.kept.count).join(' ');
 
 /** Keeps the run that is one's own before another is shown: the one that is driven, unless that is an answer's. */
 function keepOwnRun() {
   const isOwn = drive.isOn && byId('own-run').hidden;
   if (isOwn || ownRun.kept === null) ownRun.kept = { ...snapshotNow(), command: 'run' };
   if (drive.isOn) ownRun.shown = isOwn ? null : { ...snapshotNow(), said: byId('own-said').textContent };
+}
+
+/** Of an answer that is opened: the choices that came with it are one's own run, of which so many are made, or all. */
+function takeRunBehind(at) {
+  const known = countChoices(choicesText());
+  if (known > 0) ownRun.kept = { ...snapshotNow(), command: 'run', count: Math.min(at ?? known, known) };
 }
 
 function forgetOwnRun() {

@@ -29,7 +29,7 @@ function readTest(input) {
   return { programs, proposition, start };
 }
 
-const MOST_PASSES = 4; // that are told of an execution
+const MOST_PASSES = 3; // that are told of an execution
 
 const ORDINALS = ['first', 'second', 'third', 'fourth', 'fifth', 'sixth', 'seventh', 'eighth'];
 
@@ -40,17 +40,26 @@ function eventsSaid(text) {
   return `${name} is the ${ORDINALS[place]} instruction of P${core}: programs count from 0. R is a load, W a store${locked}${fence}.`;
 }
 
+const READ_AS = { INC: 'ADD', DEC: 'SUB' };
+
+/** Which instructions of a test are read as others. */
+function readAsSaid(test) {
+  const found = new Set(test.match(/\b(?:LOCK +)?(?:INC|DEC) [\w[\]]+/gi));
+  return [...found].map(text => ` ${text} is read as ${text.toUpperCase().replace(/INC|DEC/, verb => READ_AS[verb])},$1.`).join('');
+}
+
 /** Shows what `why --json` told of a test. */
 function showReason(answer, test) {
   const told = JSON.parse(answer.text), { programs, proposition } = readTest(test);
   showAnswer(answer);
   foldReport(answer);
   Object.assign(sheet, { told, programs, cycle: null });
-  if (told.answer === 'never' && told.model === 'tso') possible.refuted = test;
+  const isTso = told.model === 'tso', can = told.answer !== 'never';
+  if (!can && isTso) possible.refuted = test;
   const parts = told.answer === 'never' ? refutedParts(told) : allowedParts(told, programs, proposition);
   const section = html('section', { class: 'reason', 'aria-label': 'Why' }, answerTitle(told.answer === 'never' ? 'Why it can\'t be' : 'How it can be'),
-    html('p', { role: 'status' }, html('strong', {}, plainAnswer(told, proposition)), html('span', { class: 'fine' }, ` ${reasonSentence(told, proposition)}`)),
-    html('p', { class: 'small faint' }, eventsSaid(answer.text)), ...countsOffer(), ...parts);
+    html('p', { role: 'status' }, ...(isTso ? judgeThought(can) : []), html('strong', {}, plainAnswer(told, proposition))),
+    inTerms(reasonSentence(told, proposition)), html('p', { class: 'small faint' }, eventsSaid(answer.text) + readAsSaid(test)), ...countsOffer(), ...parts);
   byId('states').replaceChildren(section);
   const [first, second] = told.answer === 'never' ? cyclesOf(told.steps) : [];
   if (first) drawCycle(first.at);
@@ -82,7 +91,8 @@ function sheetTools(isDrawn) {
   choice.addEventListener('change', () => { byId('saved-colours').value = choice.value; });
   const save = (kind, name) => html('button', { type: 'button', 'data-save': `reason-${kind}` }, name);
   const saves = isDrawn ? [save('svg', 'Save the picture as SVG'), save('png', 'as PNG'), colours] : [];
-  return html('p', { class: 'buttons tools' }, ...saves, lectureButton(), html('span', { class: 'page-saved', role: 'status' }));
+  const link = html('button', { type: 'button', class: 'quiet', 'data-copy-link': '' }, 'Copy the link');
+  return html('p', { class: 'buttons tools' }, ...saves, link, lectureButton(), html('span', { class: 'page-saved', role: 'status' }));
 }
 
 function refutedParts({ steps, leaves }) {
@@ -91,20 +101,37 @@ function refutedParts({ steps, leaves }) {
 
 function allowedParts(told, programs, proposition) {
   const own = ownWords(told), { model, coherence } = told, choices = own.isShown ? own.choices : told.choices;
-  const executed = edgesOf(told), cycle = forbiddenCycle(executed, programs), edges = [...executed, ...cycle.filter(edge => !executed.includes(edge))];
+  const executed = edgesOf(told), cycle = forbiddenCycle(executed, programs), edges = [...cycle, ...executed.filter(edge => !cycle.includes(edge))];
   const places = proposition === null ? null : wantedWords(proposition);
   const asked = edges.length > MANY_EDGES && places !== null ? [...askedEdges(programs, executed, places, coherence), ...cycle] : edges;
-  const few = edges.filter(edge => asked.includes(edge));
   const run = html('button', { type: 'button', 'data-choices': choices, 'data-depth': DEPTH_OF[model] }, 'Run it');
-  const relations = html('div', {}, relationList(few));
-  const figure = edges.length === 0 ? [] : [drawExecution(programs, edges, few, 'The execution', shown => relations.replaceChildren(relationList(shown)))];
-  return [...passesPart(choices, model, own.said), ...sequentialPart(told), html('p', { class: 'buttons' }, run, ...choicesPart(choices)),
-    html('div', { class: 'beside' }, ...figure, html('div', { class: 'told-edges' }, ...executionTables(told), relations))];
+  return [...passesPart(choices, model, own.said, cycle), ...sequentialPart(told), html('p', { class: 'buttons' }, run, ...choicesPart(choices)),
+    ...executionPart(programs, edges, edges.filter(edge => asked.includes(edge)), cycle), tablesPart(executionTables(told))];
+}
+
+/** An execution that is drawn: its forbidden cycle edge by edge, and then what is left; without a cycle all at once. */
+function executionPart(programs, edges, few, cycle) {
+  if (edges.length === 0) return [];
+  const [first] = cycle, end = `So without store buffers ${first?.from} would be before itself. TSO doesn’t keep the dashed arrows, so this can be.`;
+  const panelOf = (shown, isAll) => {
+    const stops = [...cycle.map((_, at) => at + 1), ...(shown.length > cycle.length ? [shown.length] : [])];
+    return sheet.cycle = new CyclePanel(programs, shown, { end: first ? end : '', name: 'The execution', stops, isAll });
+  };
+  return [drawExecution(programs, edges, few, panelOf)];
+}
+
+const FEW_TOLD = 16; // rows of tables that are open at first
+
+/** The tables of an execution, folded where they are long. */
+function tablesPart(tables) {
+  const part = html('details', { class: 'in-tables' }, html('summary', {}, 'Reads, writes and final values, in tables'), html('div', { class: 'beside' }, ...tables));
+  part.open = part.querySelectorAll('tbody tr').length <= FEW_TOLD;
+  return part;
 }
 
 /** What one's own run has to do with an answer: whether it is the execution that is shown, its choices, and how a sentence names the shown run. */
 function ownWords(told) {
-  const { test, choices = '', count = 0 } = ownRun.kept ?? {}, made = choices.trim().split(/\s+/).slice(0, count).join(' ');
+  const { test, count = 0 } = ownRun.kept ?? {}, made = count > 0 ? madeBefore() : '';
   const run = test === byId('test').value && count > 0 ? runOf(made, told.model) : null;
   if (run === null || run.condition?.holds !== told.asked?.truth) return { isShown: false, said: 'this run' };
   const isShown = isExecution(run.order, told);
@@ -135,19 +162,30 @@ function choicesPart(choices) {
   return choices.length < LONG_CHOICES ? [html('span', {}, 'by the choices ', html('code', {}, ...foldedChoices(choices)))] : foldedChoices(choices, 'by ');
 }
 
-/** The loads that passed earlier stores in the run of these choices, which a sentence names so. */
-function passesPart(choices, model, named) {
-  const passes = (runOf(choices, model)?.order ?? []).filter(entry => entry.passed.length > 0).flatMap(passSentences);
-  if (passes.length === 0 || passes.length > MOST_PASSES) return [];
-  const title = passes.length === 1 ? 'A load passes a store' : 'Loads pass stores';
+/** The loads that passed earlier stores in the run of these choices, which a sentence names so: those of the cycle first. */
+function passesPart(choices, model, named, cycle) {
+  const isOfCycle = load => cycle.some(({ relation, to }) => relation === 'unkept' && nameOfEvent(to) === nameOfEvent(load.text));
+  const loads = (runOf(choices, model)?.order ?? []).filter(entry => entry.passed.length > 0);
+  const passes = loads.sort((one, other) => isOfCycle(other) - isOfCycle(one)).flatMap(passSentences);
+  if (passes.length === 0) return [];
+  const title = passes.length === 1 ? 'A load passes a store' : 'Loads pass stores', more = passes.splice(MOST_PASSES).length;
+  if (more > 0) passes.push(`And ${more} more.`);
   const after = ' This is the one order of a program that TSO doesn’t keep. One load that passes its store is enough. ' +
     'In another run that ends so, other loads may pass.';
-  return [html('p', {}, html('strong', {}, `${title} in ${named}: `), passes.join(' '), after)];
+  return [html('p', {}, html('strong', {}, `${title} in ${named}: `), passes.join(' '), html('span', { class: 'fine' }, after))];
+}
+
+/** Marks a step of the tree, and opens the cases that it is in. */
+function markStep(at) {
+  for (const item of document.querySelectorAll('[data-step]')) item.classList.toggle('drawn-case', Number(item.dataset.step) === at);
+  for (const fold of document.querySelectorAll('.tree details:has(.drawn-case)')) fold.open = true;
 }
 
 /** Draws the cycle of a step of the tree. */
 function drawCycle(at) {
-  sheet.cycle = new CyclePanel(sheet.programs, closingOf(sheet.told.steps[at]).cycle);
+  markStep(at);
+  const { step, cycle } = closingOf(sheet.told.steps[at]), order = step === 'cycle' ? ' in memory order' : '';
+  sheet.cycle = new CyclePanel(sheet.programs, cycle, { end: `So ${cycle[0].from} would be before itself${order}. No order allows that.` });
   byId('states').querySelector('.drawn').replaceChildren(sheet.cycle.element);
   for (const button of document.querySelectorAll('[data-cycle]')) button.setAttribute('aria-pressed', String(Number(button.dataset.cycle) === at));
 }

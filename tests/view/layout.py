@@ -71,7 +71,7 @@ def still_lecture_row(bench):
     faults = differs("the machine", bench.value("[byId('task').matches('.met'), %s]" % top), [True, before])
     bench.value("askWhy()")
     bench.wait("!bench.task && document.querySelector('.reason')")
-    seen = "['#way-back [data-add-to-list]', '.told-edges table'].map(each => document.querySelector(each)?.getClientRects().length ?? 0)"
+    seen = "['#way-back [data-add-to-list]', '.in-tables table'].map(each => document.querySelector(each)?.getClientRects().length ?? 0)"
     faults += differs("tools and tables", bench.value(seen), [0, 0])
     bench.fill("test", test_of("SB+mfences"))
     bench.value("askWhy()")
@@ -166,6 +166,50 @@ def bracket_row(bench):
     return faults + safety(bench)
 
 
+def phone_row(bench):
+    """On a phone a row of outcomes has its button and its choices in sight, and a long buffer stays one line."""
+    bench.open_fresh(width=374)
+    bench.value("findOutcomes()")
+    bench.wait("!bench.task && document.querySelector('.states-sheet')")
+    ends = "[...document.querySelectorAll('.states-sheet tbody td')].filter(each => each.getBoundingClientRect().right > innerWidth || each.getBoundingClientRect().left < 0).length"
+    heights = "Math.max(...[...document.querySelectorAll('.states-sheet tbody tr')].map(row => row.offsetHeight))"
+    faults = differs("cells out of sight", bench.value(ends), 0)
+    faults += [] if bench.value(heights) < 130 else ["a row is %d high" % bench.value(heights)]
+    bench.value("backToRun()")
+    bench.fill("test", "X86 queue\n{ }\n P0 | P1 ;\n MOV [x],$1 | MOV EAX,[x] ;\n MOV [y],$1 | MOV EAX,[y] ;\n MOV [z],$1 | MOV EAX,[z] ;\n MOV EAX,[x] | MOV EAX,[x] ;\n")
+    bench.value("for (const word of ['0s', '0s', '0s', '0s']) makeChoice(word)")
+    tops = "new Set([...document.querySelector('.core .buffer').querySelectorAll('.slot')].map(each => each.offsetTop)).size"
+    return faults + differs("lines of a buffer", bench.value(tops), 1) + safety(bench)
+
+
+def undrawn_row(bench):
+    """A sheet that can't be drawn says so, with the answer as text below; a script that fails is told of in one line."""
+    bench.open_fresh()
+    bench.value("window.before = statesSheet; statesSheet = () => { throw new Error('gone'); }; findOutcomes()")
+    bench.wait("!bench.task && byId('states').textContent")
+    found = bench.value("[byId('states').textContent.includes(\"couldn't be drawn (gone)\"), byId('report-part').open, byId('report').textContent.length > 100]")
+    faults = differs("a sheet", found, [True, True, True])
+    bench.value("statesSheet = before; window.dispatchEvent(new ErrorEvent('error', { message: 'gone', filename: 'x/cycles.js' })); true")
+    return faults + ([] if "cycles.js: gone" in bench.text("#message") else ["of a script it says " + bench.text("#message")]) + safety(bench)
+
+
+def lecture_outcomes_row(bench):
+    """In a lecture the outcomes have the programs over them; the counts of four protocols abreast have a column for each."""
+    bench.open_fresh(width=1920)
+    bench.value("putLecture(true); findOutcomes()")
+    bench.wait("!bench.task && document.querySelector('.states-sheet')")
+    seen = "[document.querySelector('.states-sheet .programs').checkVisibility(), document.querySelector('.states-sheet .programs').textContent]"
+    faults = differs("the programs", bench.value(seen), [True, "P0 MOV [x],$1MOV EAX,[y]P1 MOV [y],$1MOV EAX,[x]"])
+    bench.value("putLecture(false)")
+    faults += differs("without a lecture", bench.value(seen)[:1], [False])
+    if not bench.value("document.querySelector('#commands input[value=counts]') !== null"):
+        return faults
+    bench.value("backToRun(); putBeside(JSON.stringify(ABREAST)); ask('counts')")
+    bench.wait("!bench.task && byId('states').querySelector('table')")
+    heads = "[...byId('states').querySelector('table').tHead.rows[0].cells].map(each => each.textContent)"
+    return faults + differs("counts", bench.value(heads), ["", "MSI", "MESI", "MOESI", "MOSI"]) + safety(bench)
+
+
 def rows(page, folder):
     bench = Driver(page)
     return [
@@ -174,4 +218,6 @@ def rows(page, folder):
         ("a list that folds", lambda: folded_list_row(bench)), ("rarer commands", lambda: commands_row(bench)),
         ("eight cores in one picture", lambda: eight_cores_row(bench, folder)), ("a notice at its button", lambda: notice_row(bench)),
         ("an answer under a wide test", lambda: wide_answer_row(bench)), ("a bracket that nothing closes", lambda: bracket_row(bench)),
+        ("outcomes and buffers on a phone", lambda: phone_row(bench)), ("a part that can't be drawn", lambda: undrawn_row(bench)),
+        ("outcomes and counts for a hall", lambda: lecture_outcomes_row(bench)),
     ]

@@ -114,7 +114,8 @@ def refused_row(bench, folder):
     faults += differs("the band", (bench.value("byId('test-band').hidden"), bench.value("byId('test-band').dataset.line")), (False, number))
     faults += differs("invalid", bench.value("byId('test').getAttribute('aria-invalid')"), "true")
     faults += differs("a run is shown", bench.page.is_drawn(), False)
-    faults += differs("in plain words", bench.text("#plain"), "Line %s, P0: this instruction can’t be read." % number)
+    faults += differs("in plain words", bench.text("#plain"), "Line %s, P0: %s." % (number, re.sub(r"^hint: (line \d+: )?", "", hint.strip())))
+    faults += differs("said once", bench.value("['said', 'hint'].map(id => byId(id).checkVisibility())"), [False, False])
     cells = bench.value("[...document.querySelectorAll('#test-band span')].map(({ style }) => [style.left, style.width])")
     faults += differs("the cell", cells, [["1ch", "10ch"]])
     bench.window.screenshot(os.path.join(folder, "refused.png"), whole=False)
@@ -122,7 +123,7 @@ def refused_row(bench, folder):
     faults += differs("a mark where all is well", bench.value("document.querySelector('.refused') === null && byId('test-band').hidden"), True)
     bench.fill("choices", "0s 9s 1s")
     _, line, hint = bench.program(test + DIVIDING_LINE + "0s 9s 1s", "run")
-    faults += differs("choices", [bench.text("#said"), bench.text("#refused-word"), bench.text("#hint")], [line.strip(), "Word 2 is 9s", bench.said(hint)])
+    faults += differs("choices", [bench.text("#said"), bench.text("#plain"), bench.text("#hint")], [line.strip(), "Choice 2, 9s: there is no core 9.", bench.said(hint)])
     bench.choose("check")
     order = "Order\nP0:1 R y=0\nP0:7 X\nEndorder 2\n"
     bench.fill("given", order)
@@ -147,14 +148,14 @@ def outcomes_row(bench, folder):
     rows = bench.value("[...document.querySelectorAll('#states tbody tr')].map(row => [...row.querySelectorAll('.number, .way')].map(cell => cell.textContent))")
     wanted = [[str(word) for word in state["values"].values()] + [state["choices"]] for state in found["states"]]
     faults = differs("the states", rows, wanted)
-    faults += [] if "Sometimes" in bench.text("#states p") else ["it says " + bench.text("#states p")]
+    faults += [] if "Sometimes" in bench.text("#states .terms") else ["it says " + bench.text("#states .terms")]
     sequential = [state["values"] for state in json.loads(bench.program(test, "outcomes", "--json", "--depth", "0")[1])["states"]]
     told = bench.value("[...document.querySelectorAll('#states tbody tr')].map(row => [...row.cells].slice(-4, -2).map(cell => cell.textContent))")
     for state, (under, holds) in zip(found["states"], told):
         is_met = state["values"]["0:EAX"] == 0 == state["values"]["1:EAX"]
         faults += differs("of %s" % state["values"], [under, holds], ["TSO and SC" if state["values"] in sequential else "TSO alone", "✓ true" if is_met else "false"])
     faults += [] if "1 is new here" in bench.text("#states p") else ["it says " + bench.text("#states p")]
-    faults += [] if "Verdict Ok" in bench.text("#states p") or "verdict" not in found else ["it says " + bench.text("#states p")]
+    faults += [] if "Verdict Ok" in bench.text("#states .terms") or "verdict" not in found else ["it says " + bench.text("#states .terms")]
     bench.window.screenshot(os.path.join(folder, "outcomes.png"))
     for at, state in enumerate(found["states"]):
         bench.choose("outcomes")
@@ -194,7 +195,7 @@ def verdict_row(bench):
         bench.value("showOutcomes({ status: 0, text: %s, hint: '' }, undefined, %s)" % (json.dumps(json.dumps(told)), json.dumps(test)))
         marked = bench.value("[...document.querySelectorAll('#states tbody tr')].map(row => [row.matches('.met'), row.textContent.includes('✓ true')])")
         faults = differs("marked", marked, [[holds, holds] for holds in truths])
-        faults += [] if "Verdict %s: " % verdict in bench.text("#states p") else ["it says " + bench.text("#states p")]
+        faults += [] if "Verdict %s: " % verdict in bench.text("#states .terms") else ["it says " + bench.text("#states .terms")]
     return faults + safety(bench)
 
 

@@ -178,6 +178,7 @@ def in_run_row(bench):
     bench.value(CLICKED % "PageDown")
     faults += differs("taken again", bench.value("[drive.words, drive.count]"), [known, 2])
     bench.value("goTo(drive.words.length)")
+    bench.wait("playlist.isEntry")
     ends = bench.value("[byId('sentence').textContent.endsWith(' The end of the list.'), byId('list-bar').lastElementChild.textContent]")
     faults += differs("the end", ends, [True, "The end of the list"])
     bench.value("putLecture(false)")
@@ -200,9 +201,72 @@ def renamed_row(bench):
     return faults + safety(bench)
 
 
+def own_reason_row(bench):
+    """An answer in the list explains the run that it was asked from, wherever that run stood, also in a lecture and after a reload."""
+    explained = "[document.querySelector('.reason').textContent.includes('Loads pass stores in your run: P0 read y'), ownRun.kept.count, drive.isOn]"
+    faults = []
+    bench.open_fresh()
+    for choice in "0s 1s 0s 1s 0d 1d".split():
+        press(bench, "[data-choice='%s']" % choice)
+    for count in (6, 2):
+        bench.value("goTo(%d); askWhy()" % count)
+        bench.wait("!bench.task && document.querySelector('.reason')")
+        bench.value("addToList(); backToRun()")
+    for at, wanted in ((0, [True, 6, False]), (1, [False, 2, False])):
+        bench.value("openListed(%d)" % at)
+        bench.wait("!bench.task && document.querySelector('.reason')")
+        faults += differs("opened", bench.value(explained), wanted)
+        bench.value("new Promise(done => setTimeout(done, 300))")
+        bench.window.reload()
+        bench.value(READY)
+        bench.wait("!bench.task && document.querySelector('.reason')")
+        faults += differs("after a reload", bench.value(explained), wanted)
+        bench.value("backToRun()")
+        faults += differs("back", bench.value("[drive.words.length, drive.count]"), [6, wanted[1]])
+    bench.value("loadChoices('1s 1s 0s 0d 0s 1d', '4'); findOutcomes()")
+    bench.wait("!bench.task && document.querySelector('.states-sheet')")
+    faults += differs("a link, after an answer's run", bench.value("choicesToTell().trim()"), "0s 1s 0s 1s 0d 1d")
+    return faults + safety(bench)
+
+
+def reloaded(bench, is_ready="drive.isOn"):
+    """Where one is after a reload: the entry, what is made, whether in a lecture, and what the bar says."""
+    bench.value("new Promise(done => setTimeout(done, 300))")
+    bench.window.reload()
+    bench.value(READY)
+    bench.wait("!bench.task && " + is_ready)
+    return bench.value("[playlist.at, drive.count, isLecture(), document.querySelector('#list-bar span').textContent]")
+
+
+def reloaded_lecture_row(bench, folder):
+    """A reload keeps the lecture, with its entry and the choice, in the saved page and while it is prepared."""
+    bench.open_fresh()
+    bench.value("loadText('SB.litmus'); addToList(); loadText('MP.litmus'); addToList()")
+    faults = differs("while it is prepared", reloaded(bench), [1, 0, False, "2 of 2: MP: run, 19 choices"])
+    _, text = saved_page(bench, "SAVES.page()")
+    path = os.path.join(folder, "saved-lecture.html")
+    with open(path, "w") as file:
+        file.write(text)
+    bench.window.open("file://" + path)
+    bench.value(READY)
+    bench.wait("drive.isOn")
+    for _ in range(2):
+        bench.value(CLICKED % "PageDown")
+    faults += differs("in the saved page", reloaded(bench), [0, 2, True, "1 of 2: SB: run, 6 choices"])
+    bench.value("openListed(1)")
+    bench.value(CLICKED % "PageDown")
+    faults += differs("at the second", reloaded(bench), [1, 1, True, "2 of 2: MP: run, 19 choices"])
+    bench.value("putLecture(false)")
+    faults += differs("after the lecture", reloaded(bench)[2], False)
+    bench.window.requests.clear()
+    return faults + safety(bench)
+
+
 def rows(page, folder):
     bench = Driver(page)
     return [
+        ("a lecture after a reload", lambda: reloaded_lecture_row(bench, folder)),
+        ("why in a list", lambda: own_reason_row(bench)),
         ("a list of tests", lambda: list_row(bench, folder)),
         ("a clicker with nothing known", lambda: clicker_row(bench)),
         ("a list that is kept", lambda: kept_list_row(bench)),

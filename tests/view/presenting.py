@@ -1,6 +1,7 @@
 """Rows for a lecture hall and for an engineer: machines abreast, tables of states, forms of an answer, a page in a page."""
 import json
 import os
+import urllib.parse
 
 from bench import DIVIDING_LINE, OVERHANGING, READY, differs, safety
 from driver import Driver
@@ -70,10 +71,10 @@ def lecture_fits_row(bench, folder):
 def clicker_scrolls_row(bench):
     """Where there is nothing to step a clicker scrolls."""
     bench.open_fresh(width=1920)
-    bench.window.resize(1920, 500)
+    bench.window.resize(1920, 360)
     bench.value("putLecture(true)")
-    press(bench, "#ask-why")
-    bench.wait("!bench.task && document.querySelector('.reason')")
+    press(bench, "#find-outcomes")
+    bench.wait("!bench.task && document.querySelector('.states-sheet')")
     bench.value("scrollTo(0, 0)")
     bench.value(CLICKED % "PageDown")
     faults = differs("scrolled", bench.value("scrollY > 100"), True)
@@ -114,7 +115,7 @@ def exercise_row(bench, folder):
     bench.value(READY)
     bench.wait("drive.isOn")
     opened = bench.value("[testName(), drive.words, taught.list.length, byId('task').matches('.met'), byId('about').open]")
-    faults = differs("its name", name, "SBF-exercise.html") + differs("opened", opened, ["SBF", [], 0, False, True])
+    faults = differs("its name", name, "SBF-exercise.html") + differs("opened", opened, ["SBF", [], 0, False, False])
     faults += differs("asked at first", asked, "Can a run end with 0 in P0's EAX and 0 in P1's EAX?")
     in_sight = "['find-outcomes', 'ask-why', 'exercise'].map(id => byId(id).getClientRects().length > 0)"
     said = bench.value("[byId('exercise-asked').textContent, byId('task-said').textContent.includes('Can this be done?'), /^(TSO|SC)=/m.test(byId('test').value)]")
@@ -123,8 +124,47 @@ def exercise_row(bench, folder):
     bench.wait("location.hash.includes('thought=cannot')")
     faults += differs("after it", bench.value(in_sight), [True, True, True])
     faults += differs("the answer", bench.text("#exercise-thought").startswith("You said: it can’t be."), True)
+    faults += differs("the focus stays, and nothing moves", bench.value("[document.activeElement.dataset.thought, scrollY]"), ["cannot", 0])
     bench.window.requests.clear()
-    return faults + safety(bench)
+    return faults + judged_exercise(bench) + safety(bench)
+
+
+JUDGED = {"can": ("You said it can be, and so it is.", "You said: it can be. It can’t."), "cannot": ("You said: it can’t be. It can.", "You said it can’t be, and so it is.")}
+
+
+def judged_exercise(bench):
+    """An answer says whether the reader was right, and what the exercise asks is asked once."""
+    faults = []
+    for name, at in (("SB", 0), ("SB+mfences", 1)):
+        question = bench.value("questionOf(%s)" % json.dumps(test_of(name)))
+        for thought, ask, shown in (("can", "findOutcomes()", ".states-sheet"), ("cannot", "askWhy()", ".reason")):
+            bench.open_fresh(urllib.parse.urlencode({"test": test_of(name), "exercise": question}))
+            faults += differs("the task", bench.value("byId('task').hidden"), True)
+            press(bench, "[data-thought=%s]" % thought)
+            bench.value(ask)
+            bench.wait("!bench.task && document.querySelector('%s')" % shown)
+            faults += differs("judged", bench.text("#states [role=status] > .judged"), JUDGED[thought][at])
+            bench.value("backToRun()")
+            faults += differs("in the exercise", bench.text("#exercise-thought"), JUDGED[thought][at])
+    bench.key_choice("0s")
+    bench.key_choice("0d")
+    for word in "0s 0s 1s 1d 1s 1s".split():
+        bench.key_choice(word)
+    said = bench.text("#task")
+    return faults + ([] if said.startswith(" Not met this time: ") and "Go back" not in said else ["of a try it says " + said])
+
+
+def taken_row(bench):
+    """A miss and an upgrade that take the copies of others away say so, and no other step does."""
+    bench.open_fresh()
+    bench.value("loadText('false-sharing.litmus'); wantCaches(true); putChoices('0s 0d 1s 1d'); answerNow()")
+    faults, found = [], []
+    for protocol in ("msi", "moesi"):
+        bench.value("settingOf('protocol').value = '%s'; answerNow()" % protocol)
+        found.append(bench.value("byId('sentence').textContent"))
+        bench.value("goTo(2)")
+        faults += [] if "invalid" not in bench.text("#sentence") else ["too early: " + bench.text("#sentence")]
+    return faults + [said for said in found if not said.endswith(" GetM x+y went on the bus. P0's copy of x+y became invalid.")] + safety(bench)
 
 
 def pointer_row(bench):
@@ -247,7 +287,7 @@ def many_passes_row(bench):
     for choice in "0s 1s 2s 0s 1s 2s 0s 1s 2s".split():
         bench.key_choice(choice)
     said = bench.text("#task-after")
-    return ([] if said.startswith(" Done. ") and said.count(" passed ") == 4 and said.endswith(" And 2 more.") else ["it says " + said]) + safety(bench)
+    return ([] if said.startswith(" Done. ") and said.count(" passed ") == 3 and said.endswith(" And 3 more.") else ["it says " + said]) + safety(bench)
 
 
 def forms_row(bench):
@@ -320,6 +360,7 @@ def rows(page, folder):
         ("a clicker that scrolls", lambda: clicker_scrolls_row(bench)),
         ("the line for a shell", lambda: line_row(bench)),
         ("an exercise", lambda: exercise_row(bench, folder)),
+        ("a copy that is taken away", lambda: taken_row(bench)),
         ("a pointer that rests", lambda: pointer_row(bench)),
         ("what never comes, below the outcomes", lambda: never_listed_row(bench)),
         ("back to an answer's run", lambda: back_to_answer_row(bench)),

@@ -70,7 +70,7 @@ CYCLE = """({
   edges: [...document.querySelectorAll('.drawn [data-letters]')].map((edge, at) => [edge.querySelector('text').textContent,
     ...['.later', '.now'].map(name => edge.matches(name) && document.querySelector(`.drawn [data-edge='${at}']`).matches(name))]),
   sentences: [...document.querySelectorAll('.drawn .edges li')].map(item => [item.textContent, item.matches('.later'), item.hasAttribute('aria-current')]),
-  buttons: [...document.querySelectorAll('[data-edges]')].map(button => button.disabled),
+  buttons: [...document.querySelectorAll('[data-edges]')].map(button => button.ariaDisabled === 'true'),
 })"""
 # Of each edge how far its ends are from the sides of the boxes of its two events, in pixels.
 ENDS = """(edges => edges.map(({ from, to }, at) => {
@@ -144,7 +144,7 @@ def never_row(bench, folder, name, model):
     bench.open(width=1280)
     ask(bench, name, model)
     faults = faults_of_tree(bench.value(TREE), wanted_tree(list(told["steps"])), name)
-    said = bench.text(".reason > p")
+    said = bench.text(".reason > .terms")
     faults += [] if "There is none" in said and ("Verdict %s: " % told["verdict"] in said) else ["it says " + said]
     cycles = [(at, step["cycle"]) for at, step in enumerate(map(closing_of, told["steps"])) if "cycle" in step]
     buttons = [str(at) for at, _ in cycles] if len(cycles) > 1 else []
@@ -174,6 +174,11 @@ def allowed_row(bench, folder, name, model):
     return faults + bench.value(OVERHANGING) + safety(bench)
 
 
+MANY_PASS = "X86 pass\n{ }\n %s ;\n %s ;\n %s ;\nexists (%s)\n" % (
+    " | ".join("P%d" % core for core in range(8)), " | ".join("MOV [a%d],$1" % core for core in range(8)), " | ".join("MOV EAX,[a%d]" % (core ^ 1) for core in range(8)),
+    " /\\ ".join("%d:EAX=0" % core for core in range(8)))
+
+
 def unkept_row(bench):
     """Where it can be: program order that TSO doesn't keep closes a cycle; under sequential consistency it can't be; one's own run is explained, if it is
     the execution that is shown."""
@@ -187,11 +192,40 @@ def unkept_row(bench):
         if said:
             bench.wait(sequential + " !== ''")
             faults += differs("the other model", bench.value(sequential), "Under sequential consistency: %s." % said)
+    bench.fill("test", MANY_PASS)
+    bench.value("putCommand('why'); begin()")
+    bench.wait("!bench.task && document.querySelector('.reason')")
+    faults += [] if re.search(r"And \d+ more\.", bench.text(".reason")) else ["of many loads that pass it says " + bench.text(".reason")[:300]]
+    lanes = "[...document.querySelectorAll('.reason .head')].map(each => each.textContent)"
+    room = "(figure => [figure.scrollWidth <= figure.clientWidth, figure.getBoundingClientRect().right <= innerWidth])(document.querySelector('.reason figure'))"
+    bench.window.resize(1280, 800)
+    bench.value("begin()")
+    bench.wait("!bench.task && document.querySelector('.reason')")
+    bench.value("document.querySelector('.drawn-part input')?.click()")
+    faults += differs("eight cores", bench.value(lanes), ["P%d" % core for core in range(8)]) + differs("side by side at 1280", bench.value(room), [True, True])
+    faults += differs("long tables", bench.value("document.querySelector('.in-tables').open"), False)
     bench.load(text_of("SB"), "0s 1s 0s 1s 0d 1d")
     bench.value("goTo(6), askWhy()")
     bench.wait("!bench.task && document.querySelector('.reason')")
     own = bench.value("[document.querySelector('.reason').textContent.includes('Loads pass stores in your run: P0 read y'), document.querySelector('.reason [data-choices]').dataset.choices]")
     return faults + differs("one's own run", own, [True, "0s 1s 0s 1s 0d 1d"]) + safety(bench)
+
+
+def stepped_row(bench):
+    """How it can be is told arrow by arrow, as why it can't be: first the cycle that closes without store buffers, then all that is left."""
+    step = "[sheet.cycle.shown, sheet.cycle.last, [...document.querySelectorAll('.reason [data-edge].now')].map(each => each.getAttribute('class').split(' ')[1])]"
+    bench.open()
+    ask(bench, "SB", "tso")
+    shown = [bench.value(step)]
+    for _ in range(3):
+        bench.value("sheet.cycle.move('next')")
+        shown.append(bench.value(step))
+    faults = differs("of SB", shown, [[at, 4, [edge]] for at, edge in enumerate(("edge-unkept", "edge-fr", "edge-unkept", "edge-fr"), 1)])
+    end = bench.text(".cycle .edge-said strong")
+    faults += differs("the end", end, "So without store buffers P0:0 W x=1 would be before itself. TSO doesn’t keep the dashed arrows, so this can be.")
+    ask(bench, "plain", "tso")
+    faults += differs("without a cycle", bench.value("[sheet.cycle.last, document.querySelectorAll('[data-edges], .reason [data-edge].later').length]"), [1, 0])
+    return faults + safety(bench)
 
 
 # The picture that is saved of the sheet, light and as shown.
@@ -270,5 +304,6 @@ def rows(page, folder):
         row = allowed_row if told_by(page.program, name, model)["answer"] == "allowed" else never_row
         found.append(("why, %s under %s" % (name, model), lambda row=row, name=name, model=model: row(bench, folder, name, model)))
     return found + [("why, after a reload", lambda: address_row(bench)), ("why, at 360 pixels", lambda: narrow_row(bench, folder)),
-                    ("why, saved", lambda: saved_row(bench)),
+                    ("why, how it can be, step by step", lambda: stepped_row(bench)),
+        ("why, saved", lambda: saved_row(bench)),
                     ("why, the order that isn't kept", lambda: unkept_row(bench)), ("why, in a lecture", lambda: lecture_row(bench, folder))]

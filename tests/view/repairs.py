@@ -208,7 +208,7 @@ def edited_row(bench):
     bench.open_fresh()
     bench.fill("test", plain)
     bench.fill("choices", "0s 1s 0s 1s 0d 1d")
-    bench.fill("test", read(EXAMPLES, "store-buffering-fenced.litmus").partition("====\n")[0])
+    bench.fill("test", read(EXAMPLES, "store-buffering-fenced.litmus").partition("====\n")[0].replace("X86 SBF", "X86 SB"))
     said = "The test is another now: 2 of your 6 choices still do the same, and 0s would do nothing. Left out: 0s 1s 0d 1d."
     found = bench.value("[drive.count, byId('sentence').textContent.slice(0, %d)]" % len(said))
     return differs("after the edit", found, [2, said]) + safety(bench)
@@ -239,6 +239,43 @@ def words_row(bench):
     return faults + differs("the focus", bench.value("document.activeElement.id"), "lesson-next") + safety(bench)
 
 
+THREE = "X86 three\n{ }\n P0 | P1 | P2 ;\n MOV [x],$1 | MOV EAX,[x] | MOV EAX,[x] ;\nexists (1:EAX=1)\n"
+
+
+def other_test_row(bench):
+    """A test that comes in the place of another takes neither its choices nor a depth that an example set; undo brings them back. An edit keeps them."""
+    bench.open_fresh()
+    bench.value("loadText('Dekker.litmus'); putChoices('0s 1s'); answerNow(); remember()")
+    state = "[choicesText().trim(), settingOf('depth').value, drive.words.length]"
+    faults = differs("an example's depth", bench.value(state), ["0s 1s", "1", 2])
+    bench.fill("test", bench.value("byId('test').value").replace("X86 Dekker", "X86 Dekker2"))
+    faults += differs("an edit of the name", bench.value(state), ["0s 1s", "1", 2])
+    bench.fill("test", THREE)
+    faults += differs("another test", bench.value(state), ["", "4", 0])
+    faults += [] if "Another test" in bench.text("#sentence") else ["it says " + bench.text("#sentence")]
+    bench.value("undo()")
+    faults += differs("undone", bench.value(state), ["0s 1s", "1", 2])
+    bench.value("putSettings([['depth', '2']]); settingOf('depth').dispatchEvent(new Event('input', { bubbles: true })); remember()")
+    bench.fill("test", THREE)
+    return faults + differs("a depth by hand", bench.value(state), ["", "2", 0]) + safety(bench)
+
+
+def refused_choices_row(bench):
+    """Choices that are refused are said in a sentence, aren't in a link, and go by one press, which shows the machine."""
+    bench.open_fresh()
+    bench.fill("choices", "0s 1s 2s")
+    faults = differs("said", bench.text("#plain"), "Choice 3, 2s: there is no core 2.")
+    faults += differs("in the link", bench.value("currentAddress(choicesToTell()).includes('choices=')"), False)
+    faults += differs("the button", bench.value("byId('remove-choices').checkVisibility()"), True)
+    bench.value("byId('remove-choices').click()")
+    found = bench.value("[drive.isOn, choicesText(), byId('remove-choices').hidden, document.activeElement.id]")
+    faults += differs("removed", found, [True, "", True, "choices"])
+    bench.fill("choices", "0s 1s")
+    faults += differs("good ones in the link", bench.value("currentAddress(choicesToTell()).includes('choices=0s')"), True)
+    bench.fill("choices", "seed 3 9 9s")
+    return faults + differs("after a seed", bench.text("#plain"), "Word 4, 9s: there is no core 9.") + safety(bench)
+
+
 def rows(page, folder):
     bench = Driver(page)
     return [
@@ -256,4 +293,6 @@ def rows(page, folder):
         ("a run after an edit", lambda: edited_row(bench)),
         ("an example under why", lambda: kept_command_row(bench)),
         ("words of answers", lambda: words_row(bench)),
+        ("another test in its place", lambda: other_test_row(bench)),
+        ("choices that are refused", lambda: refused_choices_row(bench)),
     ]

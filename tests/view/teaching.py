@@ -147,7 +147,7 @@ def guided_row(bench):
     """A choice that the lesson doesn't wait for isn't made, but the next step's own is, in the place of Next; Back leads to the step before; a reload stays; leaving frees the machine."""
     bench.open_fresh()
     press(bench, "#first-lesson")
-    faults = differs("the focus", bench.value("document.activeElement.id"), "lesson-title")
+    faults = differs("the focus", bench.value("document.activeElement.id"), "lesson-next")
     bench.value("enterStep(2)")
     press(bench, "[data-choice='1s']")
     refused = "The lesson goes on with 0s. Leave the lesson to go your own way."
@@ -184,6 +184,37 @@ def guided_row(bench):
     return faults + safety(bench)
 
 
+FOCUS = "(({ id, dataset, textContent }) => id || dataset.choice || dataset.edges || textContent)(document.activeElement)"
+
+
+def focus_row(bench):
+    """In a lesson the focus is always at what goes on: at the first answer after a refused key, at Next after an answer and after what a step shows;
+    the last arrow of a cycle keeps it. A lesson of two tests counts the steps of each."""
+    bench.open_fresh()
+    press(bench, "#first-lesson")
+    bench.value("document.activeElement.click()")
+    faults = differs("at a question", bench.value(FOCUS), "Yes")
+    bench.key_choice("1s")
+    faults += differs("after a refused key", bench.value("[%s, drive.count]" % FOCUS), ["Yes", 0])
+    bench.value("document.activeElement.click()")
+    faults += differs("after an answer", bench.value(FOCUS), "lesson-next")
+    bench.value("document.activeElement.click()")
+    faults += differs("at a choice", bench.value(FOCUS), "0s")
+    bench.value("enterStep(12)")
+    press(bench, "[data-show]")
+    bench.wait("!bench.task && document.querySelector('.states-sheet')")
+    faults += differs("after all outcomes", bench.value("[%s, document.querySelector('[data-show]').matches('.main')]" % FOCUS), ["lesson-next", False])
+    places = [bench.value("enterStep(%d), byId('lesson-place').textContent.split(':')[0]" % at) for at in (13, 14)]
+    faults += differs("parts", places, ["Step 14 of 14, part 1 of 2", "Step 1 of 10, part 2 of 2"])
+    bench.value("beginLesson('fences'); enterStep(12)")
+    press(bench, "[data-show]")
+    bench.wait("!bench.task && document.querySelector('.cycle')")
+    for _ in range(3):
+        press(bench, "[data-edges=next]")
+    faults += differs("at the last arrow", bench.value("[%s, sheet.cycle.shown]" % FOCUS), ["next", 4])
+    return faults + safety(bench)
+
+
 def lost_row(bench):
     """Where a load has returned another word than the task wants, the page says that this run can't reach it, and Undo leads out."""
     bench.open_fresh()
@@ -208,7 +239,7 @@ def plain_words_row(bench):
     faults = differs("what waits", bench.value("[...document.querySelectorAll('.not-yet')].map(each => each.textContent)"), ["still in bufferx=1"])
     sizes = bench.value("['#sentence', '.registers .word', '.memory .word', '.slot'].map(each => parseFloat(getComputedStyle(document.querySelector(each)).fontSize))")
     faults += [] if min(sizes[1:]) >= sizes[0] else ["sizes of the sentence, registers, memory, buffers: %s" % sizes]
-    under = "outcomes under TSO (buffers of 32 stores, so never full) has "
+    under = "outcomes under TSO has "
     for name, begins in (("SB", "Yes: 1 of 4 %s0 in P0's EAX and 0 in P1's EAX." % under), ("MP", "No: none of 3 " + under)):
         bench.fill("test", test_of(name))
         bench.value("findOutcomes()")
@@ -217,6 +248,8 @@ def plain_words_row(bench):
     bench.value("askWhy()")
     bench.wait("!bench.task && document.querySelector('.cycle')")
     faults += [] if bench.text(".cycle .buttons").strip().endswith("Step 1 of 4") else ["the cycle begins at " + bench.text(".cycle .buttons")]
+    hint = "hint: give more; 2 stalled: 0s Fence (0d first), 1d Empty (no store)"
+    faults += differs("a hint", bench.said(hint), "hint: give more; 2 did nothing: 0s (it waits for 0d), 1d (no store)")
     bench.open_fresh()
     first = bench.value("[document.querySelector('#texts h4').textContent, ...[...document.querySelector('#texts ul').querySelectorAll('button')].map(each => each.textContent)]")
     faults += differs("the list", first[:5], ["Start here", "store-buffering.litmus", "store-buffering-fenced.litmus", "MP.litmus", "false-sharing.litmus"])
@@ -292,6 +325,30 @@ def tasks_row(bench):
     return faults + safety(bench)
 
 
+def done_by_answer_row(bench):
+    """What an answer says can't be done is said so in the task; a run of the answer doesn't do the task for the reader."""
+    faults = []
+    for ask, shown in (("findOutcomes()", ".states-sheet"), ("askWhy()", ".reason")):
+        bench.open_fresh()
+        bench.value("loadText('store-buffering-fenced.litmus')")
+        bench.value(ask)
+        bench.wait("!bench.task && document.querySelector('%s')" % shown)
+        bench.value("backToRun()")
+        faults += differs("the task", bench.text("#task"), "Make both loads read 0, past the fences. It can’t be done: no run ends so.")
+    bench.open_fresh()
+    bench.value("findOutcomes()")
+    bench.wait("!bench.task && document.querySelector('.states-sheet')")
+    bench.value("document.querySelector('#states tr.met [data-choices]').click()")
+    said = bench.text("#task")
+    is_so = said.startswith("☐ Task: Make both loads read 0. This run shows it. P") and said.endswith(" Now make it yourself.")
+    faults += [] if is_so else ["of a run of the answer it says " + said]
+    bench.value("backToOwnRun()")
+    for word in "0s 1s 0s 1s 0d 1d".split():
+        bench.key_choice(word)
+    faults += [] if bench.text("#task").startswith("✓ Task: Make both loads read 0. Done.") else ["of one's own run it says " + bench.text("#task")]
+    return faults + safety(bench)
+
+
 def has_larger_set(bench):
     """Whether the module has the larger set of instructions; that of an older version hasn't."""
     bench.open_fresh()
@@ -314,9 +371,11 @@ def rows(page, folder):
         ("a lesson, false sharing", lambda: lesson_row(bench, "false-sharing", "document.querySelectorAll('.machine').length === 4 && " + SHARES)),
         *([("a lesson, compare and exchange", lambda: lesson_row(bench, "compare-and-exchange", "document.querySelector('.reason') !== null"))] if has_larger_set(bench) else []),
         ("a lesson that guides", lambda: guided_row(bench)),
+        ("the focus in a lesson", lambda: focus_row(bench)),
         ("a lesson of the documents", lambda: documented_row(bench)),
         ("a lesson of a teacher", lambda: taught_row(bench, folder)),
         ("tasks", lambda: tasks_row(bench)),
+        ("a task and an answer", lambda: done_by_answer_row(bench)),
         ("a task out of reach", lambda: lost_row(bench)),
         ("plain words", lambda: plain_words_row(bench)),
     ]

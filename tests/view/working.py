@@ -45,6 +45,7 @@ def met_before_row(bench):
         return faults
     press(bench, "#stopped [data-met]")
     shown = bench.value("[document.querySelectorAll('#states tbody tr').length, document.querySelector('.answer-title').textContent, byId('stopped').hidden]")
+    faults += differs("a hint of a limit", bench.text("#hint"), "")
     faults += differs("what never is isn't known", bench.value("/never/i.test(byId('states').textContent)"), False)
     limit = bench.value("JSON.parse(working.progress.answer.text).unfinished.states")
     bench.value("byId('report-part').open = true; byId('as-printed').click()")
