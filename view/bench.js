@@ -223,10 +223,12 @@ function focusAnswer() {
   (lesson.told === null ? title : byId('lesson-next')).focus({ preventScroll: true });
 }
 
-/** Folds the text of an answer that is JSON and that a sheet shows. */
+/** Folds the text of an answer that is JSON and that a sheet shows; JSON that somebody reads stays open. */
 function foldReport(answer) {
-  byId('report-part').open = false;
+  const isRead = byId('report-part').open && byId('as-json').checked;
   putFormats({ json: answer.text });
+  byId('report-part').open = isRead;
+  if (isRead) showFormat();
 }
 
 /** Offers the way back to the run, while an answer is shown in its place. */
@@ -274,6 +276,9 @@ function hasRoom(choices, depth) {
   return history !== undefined && history.hasEnded(history.steps.length) && history.steps.every(({ outcome }) => outcome !== 'stalled');
 }
 
+/** Puts the focus on the machine's heading. */
+const focusMachine = () => document.querySelector('#machines h3')?.focus({ preventScroll: true });
+
 /** Runs choices that were found. The bus is atomic, as it was when they were found. One's own store buffers stay where the run has room in
  * them, and else they are as deep as they were then. */
 function loadChoices(choices, found) {
@@ -292,16 +297,17 @@ function loadChoices(choices, found) {
   byId('states').replaceChildren(...sheet);
   markShownState(choices);
   byId('stepper').scrollIntoView({ block: 'nearest' });
+  focusMachine();
 }
 
-/** Loads a text of the list, at the depth that it needs. */
+/** Loads a text of the list: all at one depth, but what needs more. */
 function loadText(file) {
   const entry = LIBRARY.find(entry => entry.file === file);
   const isOrder = putInput(entry.text);
   endLesson();
   forgetOwnRun();
   lent.clear();
-  for (const name of ['depth', 'words']) lendSetting(name, entry[name] ?? SET_AT_FIRST[name], SET_AT_FIRST[name]);
+  for (const name of ['depth', 'words']) lendSetting(name, Math.max(SET_AT_FIRST[name], Number(entry[name] ?? 0)), SET_AT_FIRST[name]);
   beginAddress();
   putCommand(isOrder ? 'check' : 'run');
   answerNow(true);

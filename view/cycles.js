@@ -124,6 +124,14 @@ function narrowDrawing(programs, edges, added = 0) {
   return wider.isClear ? wider : drawing;
 }
 
+const GROWN = { most: 1.5, width: 0.36, height: 0.6 };
+
+/** By how much a picture is larger where the window has room for it, in parts of its measures. */
+function grownBy({ width, height }) {
+  const room = Math.min(GROWN.most, GROWN.width * innerWidth / width, GROWN.height * innerHeight / height);
+  return lesson.told === null ? Math.max(1, room) : 1;
+}
+
 /** Edges over programs, as a figure of this name. Where there is less room the picture is made smaller, and at last scrolled. */
 function drawEdges(programs, edges, name, isAll = false) {
   const cores = drawnCores(programs, edges, isAll), shown = cores.map(core => programs[core]);
@@ -137,7 +145,7 @@ function drawEdges(programs, edges, name, isAll = false) {
   const least = (isNarrow ? NARROW : EVENTS).smaller * layout.width;
   picture.style.width = `max(100%, ${least}px)`;
   const figure = html('figure', { tabindex: 0, 'aria-label': name, class: isNarrow ? 'narrow' : '', 'data-least': least }, picture);
-  figure.style.flex = `0 1 ${layout.width}px`; // in a lecture it takes the whole width
+  figure.style.flex = `0 1 ${grownBy(layout) * layout.width}px`; // in a lecture it takes the whole width
   return figure;
 }
 
@@ -200,7 +208,7 @@ class CyclePanel {
       .map(([name, text]) => html('button', { type: 'button', 'data-edges': name }, text));
     const tools = html('div', { class: 'buttons' }, ...this.buttons, this.count, ...(isAll === null ? this.allCores() : []));
     this.element = html('div', { class: 'cycle' }, ...(stops.length > 1 ? [tools, this.said] : []),
-      html('div', { class: 'beside' }, this.place, html('div', { class: 'told-edges' }, this.sentences, this.end, relationList(cycle, this.isNarrow))));
+      html('div', { class: 'beside' }, this.place, html('div', { class: 'told-edges' }, this.sentences, relationList(cycle, this.isNarrow), this.end)));
     this.show(1);
   }
 

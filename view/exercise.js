@@ -72,8 +72,8 @@ function beginExercise() {
   byId('exercise-said').focus();
 }
 
-/** A test without the lines that tell what is allowed. */
-const withoutVerdicts = test => test.replace(/^(?:TSO|SC)=.*\n/gm, '');
+/** A test without the lines that tell what is allowed, or was seen. */
+const withoutVerdicts = test => test.replace(/^(?:TSO|SC|Seen)=.*\n/gm, '');
 
 /** The page with this test, its settings, what stands beside and the question alone: no choices, no list, and nothing asked. */
 function saveExercise() {

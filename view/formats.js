@@ -32,6 +32,20 @@ async function askFormat(name) {
   return text;
 }
 
+/** JSON in lines: one for each member, and one for each part of a list that holds more than words and numbers. */
+function inLines(text) {
+  const isLong = value => Array.isArray(value) && value.some(part => typeof part === 'object');
+  const lineOf = value => (isLong(value) ? `[\n${value.map(part => `    ${JSON.stringify(part)}`).join(',\n')}\n  ]` : JSON.stringify(value));
+  const members = Object.entries(JSON.parse(text)).map(([name, value]) => `  ${JSON.stringify(name)}: ${lineOf(value)}`);
+  return `{\n${members.join(',\n')}\n}\n`;
+}
+
+/** A form as the page shows it: an object of JSON in lines. */
+const laidOut = (text, name) => (name === 'json' && text.startsWith('{') && text.trimEnd().indexOf('\n') < 0 ? inLines(text) : text);
+
+/** The form that is shown, as the program prints it. */
+const textShown = () => formats.texts[formatNow()] ?? byId('report').textContent;
+
 /** Shows the answer in the form that is wanted. */
 async function showFormat() {
   const { texts } = formats, name = formatNow();
@@ -39,19 +53,19 @@ async function showFormat() {
     if (currentCommand() !== 'run') byId('report').textContent = 'Working …';
     texts[name] = await askFormat(name);
   }
-  if (formats.texts === texts && formatNow() === name) byId('report').textContent = texts[name];
+  if (formats.texts === texts && formatNow() === name) byId('report').textContent = laidOut(texts[name], name);
 }
 
 /** What stands in the field of the report, as a file. */
 function saveFormat() {
   const isJson = formatNow() === 'json';
-  saveText(fileName(testName(), isJson ? '.json' : '.txt'), byId('report').textContent, isJson ? 'application/json' : 'text/plain');
+  saveText(fileName(testName(), isJson ? '.json' : '.txt'), textShown(), isJson ? 'application/json' : 'text/plain');
 }
 
 /** Copies what stands in the field of the report. */
 async function copyReport() {
   try {
-    await navigator.clipboard.writeText(byId('report').textContent);
+    await navigator.clipboard.writeText(textShown());
     sayDone('#report-copied', 'Copied.');
   } catch {
     sayDone('#report-copied', 'This browser doesn\'t let the page copy: mark the text, and copy it.');

@@ -98,6 +98,8 @@ function doneWord(history, count) {
   return `Done. ${under}${tallyText(history.steps, count).replace('so far ', '')}.`;
 }
 
+const FEW_CHOICES = 20; // to make by hand
+
 /** What is said after a try. */
 function afterTry(history, count, met, quantifier) {
   if (met === null) return isRefuted() ? '' : lostSentence(history, count, quantifier);
@@ -105,7 +107,8 @@ function afterTry(history, count, met, quantifier) {
   const claim = quantifier === 'exists' ? '' : ' So the claim of the test is wrong.';
   const passes = passesOf(history.order.slice(0, history.momentAfter(count).rows), '').filter(sentence => sentence !== '');
   const more = passes.splice(MOST_PASSES).length, rest = more > 0 ? ` And ${more} more.` : '';
-  const [done, then] = isAnswersRun() ? ['This run shows it.', ' Now make it yourself.'] : [doneWord(history, count), ''];
+  const isOfAnswer = isAnswersRun(), done = isOfAnswer ? 'This run shows it.' : doneWord(history, count);
+  const then = isOfAnswer && history.steps.length <= FEW_CHOICES ? ' Now make it yourself.' : '';
   return `${` ${done}${claim} ${passes.join(' ')}${rest}`.trimEnd()}${then}`;
 }
 

@@ -19,13 +19,15 @@ function putLecture(isOn) {
   if (isOn) byId('test-part').open = byId('about').open = false;
   if (shown.run || drive.isOn) redraw();
   keepList();
+  followShown();
   scrollTo(0, 0);
 }
 
-/** Begins or ends the mode. Where the browser gives no whole screen, all else of it is the same. */
+/** Begins or ends the mode, a whole run from its start. Where the browser gives no whole screen, all else of it is the same. */
 async function toggleLecture() {
   const isOn = !isLecture();
   putLecture(isOn);
+  if (isOn && drive.isOn && lesson.told === null && drive.count === drive.words.length) goTo(0);
   try {
     if (isOn) await document.documentElement.requestFullscreen();
     else if (document.fullscreenElement) await document.exitFullscreen();

@@ -117,7 +117,7 @@ function showLeft() {
   const isShown = leftLesson !== null && lesson.told === null && leftLesson.test === byId('test').value;
   byId('left-lesson').hidden = !isShown;
   if (!isShown) return;
-  putText(byId('left-said'), `This is the test of the lesson “${leftLesson.title}”, and your run goes on.`);
+  putText(byId('left-said'), `This is the test of the lesson “${leftLesson.title}”${drive.isOn && drive.count > 0 ? ', and your run goes on' : ''}.`);
   byId('to-first-test').hidden = byId('test').value === partsOf(EXAMPLES[FIRST_TEXT]).test;
 }
 
@@ -134,7 +134,7 @@ function lessonAllows(word) {
 
 /** Says in the lesson's box why a press does nothing. */
 function refuseInLesson(wanted) {
-  const now = wanted ? `The lesson goes on with ${wanted}` : lesson.isDone ? 'The lesson goes on with Next' : 'First answer here';
+  const now = wanted ? `The lesson goes on with ${wanted}` : lesson.isDone ? 'The lesson goes on with Next' : 'First answer the question';
   putLesson({ refused: `${now}. Leave the lesson to go your own way.` });
   drawLesson();
   focusStep({ preventScroll: true });
@@ -265,11 +265,11 @@ function showLessons() {
 
 /** The buttons by which lessons begin: the first one stands above, and all of them in their list. */
 function drawLessons() {
-  const lessons = lessonsHere(), [{ name, title }] = lessons, others = lessons.length - 1;
+  const lessons = lessonsHere(), [{ name, title }, second] = lessons, others = lessons.length - 1;
   byId('first-lesson').dataset.lesson = name;
   byId('first-lesson').textContent = title;
   byId('more-lessons').hidden = others === 0;
-  putText(byId('more-lessons'), `${others} more ${others === 1 ? 'lesson' : 'lessons'}`);
+  putText(byId('more-lessons'), `${others} more, next: ${second?.title.split(':')[0]}`);
   byId('lessons').replaceChildren(...lessons.map(each => html('li', {}, html('button', { type: 'button', 'data-lesson': each.name, class: 'quiet' }, each.title))));
 }
 

@@ -12,13 +12,13 @@ const LESSONS = [
         say: 'There are two cores, P0 and P1. P0 stores 1 to x and then loads y. P1 stores 1 to y and then loads x. At the start x and y are 0. “MOV [x],$1” ' +
           'is a store: it writes 1 to x. “MOV EAX,[y]” is a load: it reads y into the core’s register EAX.',
       },
-      { ask: 'Can both loads read 0 in one run? What do you think?', answers: ['Yes', 'No'], because: 'We try it. You make each choice yourself.' },
+      { ask: 'Can both loads read 0 in one run? What do you think?', answers: ['Yes', 'No'], because: 'We try it, step by step.' },
       {
         do: '0s',
         say: 'Let P0 take its first step. Press the button 0s, “step MOV [x],$1”.',
         look: 'picture',
-        then: 'The store x=1 waits in P0’s store buffer. Memory has not seen it: x is still 0 there. In the picture it is the bar; 0 is its place in ' +
-          'the program.',
+        then: 'The store x=1 waits in P0’s store buffer. Memory has not seen it: x is still 0 there. Under “Memory order” it is the bar; the small 0 ' +
+          'above it is the place of its instruction in the program.',
       },
       { do: '1s', say: 'Now P1’s first step: 1s.', then: 'The store y=1 waits in P1’s buffer. Memory still has 0 for both.' },
       {
@@ -37,7 +37,7 @@ const LESSONS = [
       },
       { do: '1s', say: 'Press 1s.', then: 'P1 read x=0. So both loads have read 0.' },
       {
-        ask: 'Two stores still wait. When they drain, can a value that was already read change?', answers: ['Yes', 'No'], right: 'No',
+        ask: 'Two stores still wait. When they drain, can EAX of P0 or of P1 still change?', answers: ['Yes', 'No'], right: 'No',
         because: 'A load has read its value once and for all. A drain changes memory alone.',
       },
       {
@@ -59,8 +59,8 @@ const LESSONS = [
       },
       {
         say: 'There are four outcomes. One is marked “TSO alone”. Under sequential consistency no core has a store buffer: that is as if the cores took ' +
-          'turns, each store at once in memory, and then at least one of the loads reads 1. A load may pass an earlier store of its own core. TSO lets ' +
-          'nothing else pass.',
+          'turns, each store at once in memory, and then at least one of the loads reads 1. A load may pass an earlier store of its own core. TSO, the ' +
+          'memory order of x86 processors, lets nothing else pass.',
       },
       {
         test: 'X86 OWN\n{ x=0; }\n P0          | P1          ;\n MOV [x],$1  | MOV EAX,[x] ;\n MOV [x],$2  |             ;\n MOV EAX,[x] |             ;\n',
@@ -102,7 +102,7 @@ const LESSONS = [
           'only when its store buffer is empty. We try again to make both loads read 0.',
       },
       { do: '0s', say: 'P0’s store first: 0s.', then: 'The store waits in the buffer, as before.' },
-      { do: '1s', say: 'Then P1’s store: 1s.', then: 'Both stores wait. Each core has its fence before it.' },
+      { do: '1s', say: 'Then P1’s store: 1s.', then: 'Both stores wait. Each core comes to its fence next.' },
       {
         ask: 'P0’s next instruction is MFENCE, and its buffer has x=1. What happens if P0 steps now?', answers: ['It goes on', 'It waits'], right: 'It waits',
         because: 'A fence waits until the store buffer of its core is empty, and x=1 is still in it. So 0s would do nothing now.',
@@ -142,7 +142,8 @@ const LESSONS = [
       { do: '0s', say: 'P0’s store: 0s.', then: 'It waits in P0’s buffer.' },
       { do: '0d', say: 'P0’s fence needs it in memory: 0d.', then: 'Memory has x=1, too late for P1’s load.' },
       { do: '0s', say: 'P0’s fence: 0s.', then: 'P0 may load now.' },
-      { do: '0s', say: 'And its load: 0s.', then: 'P0 read y=0, since P1’s store still waits. So both loads read 0: each of the two cores needs its fence.' },
+      { do: '0s', say: 'And its load: 0s.', then: 'P0 read y=0, since P1’s store still waits. So both loads read 0.' },
+      { do: '1d', say: 'P1’s store drains last: 1d.', then: 'The run has ended with both loads at 0: each of the two cores needs its fence.' },
       {
         say: 'In C and C++ such a fence is atomic_thread_fence(memory_order_seq_cst). There x and y have to be atomic: with plain variables the compiler may ' +
           'change the order too. A fence costs the wait for the buffer, so one puts it only where the order of a store and a later load matters, as in a ' +

@@ -231,7 +231,7 @@ class MachinePanel {
     this.bus = new Part(html('p', { class: 'bus' }), busItems);
     this.tally = html('p', { class: 'tally' });
     this.memory = new Part(html('ul', { class: 'memory', 'aria-label': 'Memory' }), memoryItems);
-    this.name = html('h3', {});
+    this.name = html('h3', { tabindex: -1 });
     this.element = html('section', { class: 'machine', 'aria-label': `The machine: ${machineName(history.options)}` },
       this.name, this.said, html('div', { class: 'cores' }, ...this.panels.map(panel => panel.element)),
       html('div', { class: 'below' }, html('div', { class: 'of-caches' }, partTitle('Bus', true), this.bus.element, this.tally), html('div', {}, partTitle('Memory', true), this.memory.element)));

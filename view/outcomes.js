@@ -93,17 +93,21 @@ function foldedChoices(choices, before = '') {
   return [html('details', { class: 'small' }, html('summary', {}, `${before}${countChoices(choices)} choices`), html('code', {}, choices))];
 }
 
+const lastWord = ({ registers, memory }, name) => memory.get(name) ?? registers[name[0]]?.get(name.slice(2)); // of a run
+
 /** A row for each state; its button has the choices, which `loadChoices` takes. Beside them, where it is known, whether sequential
  * consistency has the state too, and whether the condition is true of it. */
 function outcomesTable(outcomes, sequential, truths) {
-  const { states } = outcomes, names = Object.keys(states[0].values), isNew = sequential && newStates(outcomes, sequential);
+  const { states, depth } = outcomes, names = Object.keys(states[0].values), isNew = sequential && newStates(outcomes, sequential);
+  const late = lateRun(readTest(inputOf('outcomes')).programs, depth), isLate = values => late && names.every(name => lastWord(late.run, name) === values[name]);
+  const ways = states.map(({ values, choices }, at) => (truths?.[at] && isLate(values) ? late.choices : choices));
   const titles = [...names, ...(sequential ? ['Under'] : []), ...(truths ? ['Condition'] : []), 'Choices that lead there', ''];
-  const sheet = tableOf('Final states', titles, states.map(({ values, choices }, at) => html('tr', truths?.[at] ? { class: 'met' } : {},
+  const sheet = tableOf('Final states', titles, states.map(({ values }, at) => html('tr', truths?.[at] ? { class: 'met' } : {},
     ...names.map(name => html('td', { class: 'number', 'data-name': name }, String(values[name]))),
     ...(sequential ? [html('td', { class: 'unbroken' }, isNew[at] ? html('strong', {}, 'TSO alone') : 'TSO and SC')] : []),
     ...(truths ? [html('td', {}, truths[at] ? '✓ true' : 'false')] : []),
-    html('td', { class: 'wraps way' }, ...foldedChoices(choices)),
-    html('td', {}, html('button', { type: 'button', 'data-choices': choices, 'data-depth': outcomes.depth, 'aria-label': `Run to ${valuesText(values)}` }, 'Run them')))));
+    html('td', { class: 'wraps way' }, ...foldedChoices(ways[at])),
+    html('td', {}, html('button', { type: 'button', 'data-choices': ways[at], 'data-depth': depth, 'aria-label': `Run to ${valuesText(values)}` }, 'Run them')))));
   if (outcomes.unfinished === undefined) sheet.querySelector('table').append(...neverRow(names, titles.length, truths));
   return sheet;
 }

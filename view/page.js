@@ -54,13 +54,14 @@ function takeText(text) {
 /** The choices that came with the example that was taken last. */
 const fromExample = { words: null };
 
-/** Takes a text of the list of examples, and brings the machine with it into sight. Who asked for outcomes or for a reason is answered of it. */
+/** Takes a text of the list of examples, and brings the machine with it into sight. Who asked for outcomes or for a reason is answered of it,
+ * but of caches. */
 function takeFromLibrary(file) {
   const command = currentCommand();
   putDrive({ beside: null }); // what stood beside another test
   loadText(file);
   if (bench.answer?.status === Tso.STATUS.refused) return;
-  if (Object.hasOwn(LIMIT_OF, command) && currentCommand() === 'run') {
+  if (Object.hasOwn(LIMIT_OF, command) && currentCommand() === 'run' && valueOf('words') === 1) {
     working.asker = byId('test');
     ask(command, { isAgain: true });
     return;
@@ -70,6 +71,7 @@ function takeFromLibrary(file) {
   if (drive.isOn) showDrive(); // whose the choices are
   byId('test-part').open = byId('about').open = false;
   byId('bench').scrollIntoView({ block: 'nearest' });
+  focusMachine();
 }
 
 /** Of choices that a text draws from a seed: leaves out those that stall and change nothing. What is shown is the same run. */

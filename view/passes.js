@@ -2,6 +2,16 @@
 
 // What loads passed so far: a list that grows with the order. Its items stay, so that a step costs what it adds.
 
+/** The run at a depth in which cores step in turn and drain last, so that each load passes that can, with its choices; null where one stalls. */
+function lateRun(programs, depth) {
+  const wordsOf = (text, at, core) => [[at, `${core}s`], ...(/^MOV\s+\[/i.test(text) ? [[MOST.instructions, `${core}d`]] : [])];
+  const words = programs.flatMap((program, core) => program.flatMap((text, at) => wordsOf(text, at, core))).sort(([one], [other]) => one - other);
+  const choices = words.map(([, word]) => word).join(' '), input = `${inputOf('sweep')}${DIVIDING_LINE}\n${choices}\n`;
+  const { status, text } = depth > 0 ? asked({ command: 'run', json: true, depth }, input) : {};
+  const run = status === Tso.STATUS.good ? readLine(text.trim()) : null;
+  return run?.choices.get('stalled') + run?.choices.get('unused') === 0 ? { run, choices } : null;
+}
+
 class PassList {
   constructor(element) {
     Object.assign(this, { element, rows: [], none: html('li', {}), hasGrown: false });

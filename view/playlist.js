@@ -3,8 +3,9 @@
 // A list of tests for a lecture: each as its address tells it, with a way to the next and to the one before. It is saved with the page.
 
 /** The number of the test of the list that was opened or added last, -1 before one is; of which address the note beside the buttons is,
- * null where there is none; whether the bar names that test, since what is shown is of it; and whether one came to it from the next one. */
-const playlist = { at: -1, said: null, isEntry: false, isFromBehind: false };
+ * null where there is none; whether the bar names that test, since what is shown is of it, and as changed; whether one came to it from the next
+ * one; and the addresses of entries left changed. */
+const playlist = { at: -1, said: null, isEntry: false, isChanged: false, isFromBehind: false, left: new WeakMap() };
 
 const LIST_END = 'The end of the list';
 const MOST_NAME = 80; // characters of an entry's name
@@ -52,15 +53,20 @@ function isOfEntry() {
   return told.get('test') === byId('test').value && commandOf(told.get('command')) === currentCommand();
 }
 
+const withoutPlace = address => address.replace(/&at=\d+/, ''); // in its run
+
+/** Whether what is shown is that entry, changed. In a lecture none is. */
+const isChangedEntry = () => !isLecture() && isOfEntry() && withoutPlace(taught.list[playlist.at].address) !== withoutPlace(currentAddress());
+
 /** Keeps what is said of the list with what is shown: notes of something else go, and an entry that was changed can be put anew. */
 function followShown() {
-  const address = currentAddress(), isEntry = isOfEntry();
-  if (playlist.said !== null && playlist.said !== address) sayListed('');
+  const isEntry = isOfEntry(), isChanged = isChangedEntry();
+  if (playlist.said !== null && playlist.said !== currentAddress()) sayListed('');
   for (const button of document.querySelectorAll('[data-update-list]')) {
-    button.hidden = !isEntry || taught.list[playlist.at].address === address;
+    button.hidden = !isChanged;
     putText(button, `Update ${playlist.at + 1} of ${taught.list.length}`);
   }
-  if (playlist.isEntry !== isEntry) drawBar(isEntry);
+  if (playlist.isEntry !== isEntry || playlist.isChanged !== isChanged) drawBar(isEntry, isChanged);
 }
 
 /** What the browser keeps with the address, so that it is there again after a reload: the list, which of it is shown, and whether in a lecture. */
@@ -92,12 +98,16 @@ function raiseInList(at) {
   drawList();
 }
 
-/** Opens a test of the list: a run before its first choice, so that one goes through it, or at its end (`isAtEnd`) for who goes back. */
+/** Opens a test of the list: a run before its first choice, so that one goes through it, or at its end (`isAtEnd`) for who goes back. One that
+ * was left changed is so still, but not in a lecture. */
 function openListed(at, isAtEnd = false) {
   if (at < 0 || at >= taught.list.length) return;
+  if (at !== playlist.at && isChangedEntry()) playlist.left.set(taught.list[playlist.at], currentAddress());
   Object.assign(playlist, { at, isFromBehind: isAtEnd });
   endLesson();
-  openTest(taught.list[at].address);
+  const entry = taught.list[at], left = isLecture() ? undefined : playlist.left.get(entry);
+  playlist.left.delete(entry);
+  openTest(left ?? entry.address);
   if (drive.isOn) goTo(isAtEnd ? drive.words.length : 0);
   foldList();
   drawList();
@@ -112,14 +122,14 @@ function showFromBehind() {
 const listButton = (attributes, text, isOff = false) => html('button', { type: 'button', ...attributes, ...(isOff ? { disabled: '' } : {}) }, text);
 
 /** The bar over the machine: which entry is shown, if one is, and the ways to the one before and the next. */
-function drawBar(isEntry) {
+function drawBar(isEntry, isChanged) {
   const { list } = taught, { at } = playlist;
   const all = `${list.length} ${list.length === 1 ? 'entry' : 'entries'}`;
   const next = at + 1 < list.length ? `Next: ${list[at + 1].name} ▶` : at > 0 ? LIST_END : 'Next ▶', isOut = at >= 0 && !isEntry && at + 1 >= list.length;
-  const where = at < 0 ? all : isEntry ? `${at + 1} of ${list.length}: ${list[at].name}` : `Not in the list of ${all}`;
-  playlist.isEntry = isEntry;
+  const where = at < 0 ? all : isEntry ? `${at + 1} of ${list.length}${isChanged ? ', changed' : ''}: ${list[at].name}` : `Not in the list of ${all}`;
+  Object.assign(playlist, { isEntry, isChanged });
   byId('list-bar').replaceChildren(listButton({ 'data-listed': at - 1 }, '◀ Previous', at <= 0), html('span', {}, where),
-    ...(isOut ? [] : [listButton({ 'data-listed': at + 1 }, next, at >= list.length - 1)]));
+    ...(isChanged ? [listButton({ 'data-update-list': '' }, `Update ${at + 1} of ${list.length}`)] : []), ...(isOut ? [] : [listButton({ 'data-listed': at + 1 }, next, at >= list.length - 1)]));
 }
 
 function drawList() {
@@ -127,7 +137,7 @@ function drawList() {
   sayListed('');
   const { list } = taught;
   byId('list-bar').hidden = byId('list-part').hidden = list.length === 0;
-  drawBar(isOfEntry());
+  drawBar(isOfEntry(), isChangedEntry());
   byId('list').replaceChildren(...list.map(({ name }, each) => html('li', {}, listButton({ 'data-listed': each, class: 'quiet' }, name),
     ' ', listButton({ 'data-raised': each, class: 'quiet', 'aria-label': `Move ${name} up` }, 'up', each === 0),
     ' ', listButton({ 'data-raised': each + 1, class: 'quiet', 'aria-label': `Move ${name} down` }, 'down', each === list.length - 1),

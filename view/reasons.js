@@ -191,15 +191,18 @@ function wayBack(start, leaving) {
 }
 
 /** A shortest cycle of an execution's edges and program order, which sequential consistency forbids; empty where there is none. It begins with an order
- * that TSO doesn't keep. */
-function forbiddenCycle(edges, programs) {
+ * that TSO doesn't keep, that of a store and one of the `loads` that passed it. */
+function forbiddenCycle(edges, programs, loads) {
   const stepOf = edge => ({ edge, from: nameOfEvent(edge.from), to: nameOfEvent(edge.to) }), leaving = new Map();
   const steps = [...edges, ...edgesOfPrograms(edges, programs)].map(stepOf);
   for (const step of steps) leaving.set(step.from, [...(leaving.get(step.from) ?? []), step]);
   const ways = [...leaving.keys()].map(event => wayBack(event, leaving)).filter(way => way !== null);
   const [cycle = []] = ways.sort((one, other) => one.length - other.length);
-  const [first] = cycle.filter(({ relation }) => relation === 'unkept').map(({ from }) => from).sort();
-  const at = Math.max(0, cycle.findIndex(({ from }) => from === first));
+  const isSame = (entry, text) => nameOfEvent(entry.text) === nameOfEvent(text);
+  const isPassed = ({ from, to }) => loads.some(load => isSame(load, to) && load.passed.some(store => isSame(store, from)));
+  const unkept = cycle.filter(({ relation }) => relation === 'unkept');
+  unkept.sort((one, other) => isPassed(other) - isPassed(one) || (one.from < other.from ? -1 : 1));
+  const at = Math.max(0, cycle.indexOf(unkept[0]));
   return [...cycle.slice(at), ...cycle.slice(0, at)];
 }
 

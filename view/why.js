@@ -45,7 +45,7 @@ const READ_AS = { INC: 'ADD', DEC: 'SUB' };
 /** Which instructions of a test are read as others. */
 function readAsSaid(test) {
   const found = new Set(test.match(/\b(?:LOCK +)?(?:INC|DEC) [\w[\]]+/gi));
-  return [...found].map(text => ` ${text} is read as ${text.toUpperCase().replace(/INC|DEC/, verb => READ_AS[verb])},$1.`).join('');
+  return [...found].map(text => ` ${text} is read as ${text.replace(/INC|DEC/i, verb => READ_AS[verb.toUpperCase()])},$1.`).join('');
 }
 
 /** Shows what `why --json` told of a test. */
@@ -57,7 +57,8 @@ function showReason(answer, test) {
   const isTso = told.model === 'tso', can = told.answer !== 'never';
   if (!can && isTso) possible.refuted = test;
   const parts = told.answer === 'never' ? refutedParts(told) : allowedParts(told, programs, proposition);
-  const section = html('section', { class: 'reason', 'aria-label': 'Why' }, answerTitle(told.answer === 'never' ? 'Why it can\'t be' : 'How it can be'),
+  const title = !can ? 'Why it can\'t be' : told.asked === null ? 'How it may end' : 'How it can be';
+  const section = html('section', { class: 'reason', 'aria-label': 'Why' }, answerTitle(title),
     html('p', { role: 'status' }, ...(isTso ? judgeThought(can) : []), html('strong', {}, plainAnswer(told, proposition))),
     inTerms(reasonSentence(told, proposition)), html('p', { class: 'small faint' }, eventsSaid(answer.text) + readAsSaid(test)), ...countsOffer(), ...parts);
   byId('states').replaceChildren(section);
@@ -70,6 +71,7 @@ function showReason(answer, test) {
 
 /** The answer in one plain sentence: with the words that are asked for, where the condition asks for words at places alone. */
 function plainAnswer({ answer, asked }, proposition) {
+  if (asked === null && answer !== 'never') return 'The test has no condition: add one, as exists (0:EAX=0).';
   const wanted = asked?.truth === true && proposition !== null ? wantedWords(proposition) : null, end = wanted === null ? 'ends so' : `ends with ${wantedSentence(wanted)}`;
   return answer === 'never' ? `No: no run ${end}.` : `Yes: a run ${end}.`;
 }
@@ -100,12 +102,14 @@ function refutedParts({ steps, leaves }) {
 }
 
 function allowedParts(told, programs, proposition) {
-  const own = ownWords(told), { model, coherence } = told, choices = own.isShown ? own.choices : told.choices;
-  const executed = edgesOf(told), cycle = forbiddenCycle(executed, programs), edges = [...cycle, ...executed.filter(edge => !cycle.includes(edge))];
+  const own = ownWords(told), { model, coherence } = told, late = lateRun(programs, DEPTH_OF[model]);
+  const choices = own.isShown ? own.choices : late && isExecution(late.run.order, told) ? late.choices : told.choices;
+  const loads = loadsThatPassed(choices, model), executed = edgesOf(told), cycle = forbiddenCycle(executed, programs, loads);
+  const passes = passEdges(loads, executed, cycle), edges = [...cycle, ...passes, ...executed.filter(edge => !cycle.includes(edge))];
   const places = proposition === null ? null : wantedWords(proposition);
-  const asked = edges.length > MANY_EDGES && places !== null ? [...askedEdges(programs, executed, places, coherence), ...cycle] : edges;
+  const asked = edges.length > MANY_EDGES && places !== null ? [...askedEdges(programs, executed, places, coherence), ...cycle, ...passes] : edges;
   const run = html('button', { type: 'button', 'data-choices': choices, 'data-depth': DEPTH_OF[model] }, 'Run it');
-  return [...passesPart(choices, model, own.said, cycle), ...sequentialPart(told), html('p', { class: 'buttons' }, run, ...choicesPart(choices)),
+  return [...passesPart(loads, own.said, cycle), ...sequentialPart(told), html('p', { class: 'buttons' }, run, ...choicesPart(choices)),
     ...executionPart(programs, edges, edges.filter(edge => asked.includes(edge)), cycle), tablesPart(executionTables(told))];
 }
 
@@ -162,16 +166,32 @@ function choicesPart(choices) {
   return choices.length < LONG_CHOICES ? [html('span', {}, 'by the choices ', html('code', {}, ...foldedChoices(choices)))] : foldedChoices(choices, 'by ');
 }
 
-/** The loads that passed earlier stores in the run of these choices, which a sentence names so: those of the cycle first. */
-function passesPart(choices, model, named, cycle) {
-  const isOfCycle = load => cycle.some(({ relation, to }) => relation === 'unkept' && nameOfEvent(to) === nameOfEvent(load.text));
-  const loads = (runOf(choices, model)?.order ?? []).filter(entry => entry.passed.length > 0);
-  const passes = loads.sort((one, other) => isOfCycle(other) - isOfCycle(one)).flatMap(passSentences);
+/** The loads that passed earlier stores in the run of these choices. */
+const loadsThatPassed = (choices, model) => (runOf(choices, model)?.order ?? []).filter(({ passed }) => passed.length > 0);
+
+/** Whether a cycle has this load behind a store. */
+const isOfCycle = (load, cycle) => cycle.some(({ relation, to }) => relation === 'unkept' && nameOfEvent(to) === nameOfEvent(load.text));
+
+/** These loads as they are told: those of the cycle first. */
+const toldFirst = (loads, cycle) => [...loads].sort((one, other) => isOfCycle(other, cycle) - isOfCycle(one, cycle));
+
+/** Program order that is told and that the cycle leaves out: from a store to a load that passed it. */
+function passEdges(loads, executed, cycle) {
+  const drawn = eventsOf(executed).map(({ text }) => nameOfEvent(text)), told = cycle.length === 0 ? [] : toldFirst(loads, cycle).slice(0, MOST_PASSES);
+  return told.filter(load => !isOfCycle(load, cycle)).flatMap(({ text, location, passed }) => {
+    const stores = passed.filter(store => store.location !== location), store = stores.find(each => drawn.includes(nameOfEvent(each.text))) ?? stores[0];
+    return store === undefined ? [] : [{ from: store.text, relation: 'unkept', to: text }];
+  });
+}
+
+/** What loads passed in the run that a sentence names so, and what keeps such an order. */
+function passesPart(loads, named, cycle) {
+  const passes = toldFirst(loads, cycle).flatMap(passSentences), isOne = loads.length === 1;
   if (passes.length === 0) return [];
-  const title = passes.length === 1 ? 'A load passes a store' : 'Loads pass stores', more = passes.splice(MOST_PASSES).length;
+  const title = isOne ? 'A load passes a store' : 'Loads pass stores', more = passes.splice(MOST_PASSES).length;
   if (more > 0) passes.push(`And ${more} more.`);
-  const after = ' This is the one order of a program that TSO doesn’t keep. One load that passes its store is enough. ' +
-    'In another run that ends so, other loads may pass.';
+  const after = ' This is the one order of a program that TSO doesn’t keep. MFENCE or a locked instruction between the store and the load would keep it.' +
+    `${isOne ? ' One load that passes its store is enough.' : ''} In another run that ends so, other loads may pass.`;
   return [html('p', {}, html('strong', {}, `${title} in ${named}: `), passes.join(' '), html('span', { class: 'fine' }, after))];
 }
 

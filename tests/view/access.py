@@ -43,7 +43,7 @@ def under_row(bench):
 
 
 def focus_row(bench):
-    """The focus goes to the answer that was asked for, which is in sight, and its sentence is read with it."""
+    """The focus goes to the answer that was asked for, which is in sight, and its sentence is read with it; to the machine after an example and a run."""
     bench.open_fresh(width=1280)
     bench.window.resize(1280, 720)
     faults = []
@@ -53,6 +53,14 @@ def focus_row(bench):
         told = bench.value("(found => [found.textContent, document.getElementById(found.getAttribute('aria-describedby'))?.textContent.length > 20])(document.activeElement)")
         faults += differs("the focus after " + asked, told, [title, True]) + differs("in sight", is_in_sight(bench, ".answer-title"), True)
         press(bench, "#to-run")
+    bench.value("findOutcomes()")
+    bench.wait("!bench.task && document.querySelector('.states-sheet')")
+    press(bench, "#states tr.met [data-choices]")
+    named = "document.activeElement.matches('.machine > h3')"
+    faults += differs("the focus after Run it", bench.value(named), True)
+    bench.value("byId('test-part').open = byId('library').open = true; document.activeElement.blur()")
+    press(bench, "[data-file='MP.litmus']")
+    faults += differs("the focus after an example", bench.value(named), True)
     faults += differs("live", bench.value("['working', 'task', 'sentence', 'message', 'lesson-words'].filter(id => !byId(id).matches('[role=status], [role=alert], [aria-live]'))"), [])
     return faults + safety(bench)
 

@@ -154,7 +154,12 @@ def wide_answer_row(bench):
     press(bench, "#commands [value=why]")
     press(bench, "#begin")
     bench.wait("!bench.task && document.querySelector('.reason')")
-    return faults + differs("the answer in sight", is_in_sight(bench, ".answer-title"), True) + safety(bench)
+    faults += differs("the answer in sight", is_in_sight(bench, ".answer-title"), True)
+    bench.value("scrollTo(0, 0); byId('test').focus(); bench.took = 0; true")
+    bench.fill("test", EIGHT + "\n")
+    bench.wait("!bench.task && !byId('brief').hidden")
+    away = bench.value("byId('brief').getBoundingClientRect().top - byId('test').getBoundingClientRect().bottom")
+    return faults + differs("the answer to an edit stands under the text", [0 <= away < 60, is_in_sight(bench, "#brief")], [True, True]) + safety(bench)
 
 
 def bracket_row(bench):
@@ -201,7 +206,8 @@ def lecture_outcomes_row(bench):
     seen = "[document.querySelector('.states-sheet .programs').checkVisibility(), document.querySelector('.states-sheet .programs').textContent]"
     faults = differs("the programs", bench.value(seen), [True, "P0 MOV [x],$1MOV EAX,[y]P1 MOV [y],$1MOV EAX,[x]"])
     bench.value("putLecture(false)")
-    faults += differs("without a lecture", bench.value(seen)[:1], [False])
+    beside = "(({ left }, table) => left > table.right)(...['.programs', 'table'].map(each => document.querySelector('.states-sheet ' + each).getBoundingClientRect()))"
+    faults += differs("without a lecture, beside the table", [bench.value(seen)[0], bench.value(beside)], [True, True])
     if not bench.value("document.querySelector('#commands input[value=counts]') !== null"):
         return faults
     bench.value("backToRun(); putBeside(JSON.stringify(ABREAST)); ask('counts')")

@@ -108,6 +108,45 @@ def updated(bench):
     return faults + differs("over another test", [bench.text("#listed"), bench.value("document.querySelector('#saves [data-update-list]').hidden")], ["", True])
 
 
+def changed_row(bench):
+    """An entry that is changed is said to be in the bar, with what updates it; it is as it was left when one comes back, and in a lecture as the list has it."""
+    bar, words = "document.querySelector('#list-bar span').textContent", "settingOf('words').value"
+    bench.open_fresh()
+    bench.value("loadText('MP.litmus'); addToList(); loadText('false-sharing.litmus'); addToList(); goTo(3)")
+    bench.wait("location.hash.includes('at=3')")
+    faults = differs("gone through", bench.value(bar), "2 of 2: false-sharing: run, 7 choices")
+    bench.value("settingOf('words').value = '1'; settingOf('words').dispatchEvent(new Event('input', { bubbles: true }))")
+    bench.wait(bar + " === '2 of 2, changed: false-sharing: run, 7 choices'")
+    bench.value("openListed(0)")
+    faults += differs("another", bench.value(bar), "1 of 2: MP: run, 19 choices")
+    bench.value("openListed(1)")
+    faults += differs("back", bench.value("[%s, %s]" % (bar, words)), ["2 of 2, changed: false-sharing: run, 7 choices", "1"])
+    bench.value("putLecture(true); openListed(0); openListed(1)")
+    faults += differs("in a lecture", bench.value("[%s, %s]" % (bar, words)), ["2 of 2: false-sharing: run, 7 choices", "2"])
+    bench.value("putLecture(false); settingOf('words').value = '4'; settingOf('words').dispatchEvent(new Event('input', { bubbles: true }))")
+    bench.wait("document.querySelector('#list-bar [data-update-list]')")
+    press(bench, "#list-bar [data-update-list]")
+    bench.value("openListed(0); openListed(1)")
+    return faults + differs("updated", bench.value("[%s, %s]" % (bar, words)), ["2 of 2: false-sharing: run, 7 choices", "4"]) + safety(bench)
+
+
+def from_the_start_row(bench):
+    """For a lecture a run that was made begins anew, and one in its middle stays; what the list of examples has of caches opens as a run."""
+    bench.open_fresh()
+    found = []
+    for count in (6, 2):
+        bench.value("loadText('store-buffering.litmus'); goTo(%d); toggleLecture()" % count)
+        found.append(bench.value("[isLecture(), drive.count]"))
+        bench.value("toggleLecture()")
+        bench.wait("!isLecture() && !document.fullscreenElement")
+    faults = differs("where it begins", found, [[True, 0], [True, 2]])
+    bench.value("askWhy()")
+    bench.wait("!bench.task && document.querySelector('.reason')")
+    faults += differs("its choices", bench.value("document.querySelector('.reason [data-choices]').dataset.choices"), "0s 1s 0s 1s 0d 1d")
+    bench.value("takeFromLibrary('false-sharing.litmus')")
+    return faults + differs("of caches", bench.value("[currentCommand(), drive.isOn]"), ["run", True]) + safety(bench)
+
+
 def kept_list_row(bench):
     """A list says what was added, takes no test twice, and outlives a reload; what stands beside the machine belongs to its test; and a saved page is named."""
     bench.open_fresh()
@@ -270,6 +309,8 @@ def rows(page, folder):
         ("a list of tests", lambda: list_row(bench, folder)),
         ("a clicker with nothing known", lambda: clicker_row(bench)),
         ("a list that is kept", lambda: kept_list_row(bench)),
+        ("a changed entry of a list", lambda: changed_row(bench)),
+        ("a lecture from its start", lambda: from_the_start_row(bench)),
         ("a clicker that goes back through a list", lambda: both_ways_row(bench)),
         ("a clicker in the middle of a run", lambda: in_run_row(bench)),
         ("a name in a list", lambda: renamed_row(bench)),

@@ -2,6 +2,7 @@
 import json
 import os
 import urllib.parse
+from itertools import product
 
 from bench import DIVIDING_LINE, OVERHANGING, READY, differs, safety
 from driver import Driver
@@ -9,7 +10,7 @@ from kept import saved_page
 from playlists import CLICKED
 from teaching import is_in_sight, press, test_of
 
-IN_SIGHT = "['#find-outcomes', '#ask-why', '[data-choice]', '.memory', '#frame', '#task', '#sentence', '#undo'].filter(each => { const { bottom, height } = document.querySelector(each).getBoundingClientRect(); return height === 0 || bottom > innerHeight; })"
+IN_SIGHT = "['#find-outcomes', '#ask-why', '[data-choice]', '.memory', '#frame', '#passes', '#sentence', '#undo'].filter(each => { const { bottom, height } = document.querySelector(each).getBoundingClientRect(); return height === 0 || bottom > innerHeight; })"
 
 
 def lecture_hall_row(bench, folder):
@@ -68,6 +69,20 @@ def lecture_fits_row(bench, folder):
     return faults + safety(bench)
 
 
+def each_step_fits_row(bench):
+    """In a lecture each step of a list's entry fits the sheet, also in a window that isn't the whole screen. No task stands there."""
+    bench.open_fresh(width=1920)
+    faults = []
+    for high, name, beside in product((1080, 940), ("false-sharing", "store-buffering"), ("null", "ABREAST")):
+        bench.window.resize(1920, high)
+        bench.value("putLecture(false); taught.list = []; loadText('%s.litmus'); putBeside(JSON.stringify(%s)); addToList(); putLecture(true)" % (name, beside))
+        heights = "[...drive.words, ''].map((_, count) => { goTo(count); return document.documentElement.scrollHeight; })"
+        faults += differs("%s, %s, %d high" % (name, beside, high), max(bench.value(heights)), high)
+    faults += differs("the task", bench.value("byId('task').checkVisibility()"), False)
+    bench.value("putLecture(false)")
+    return faults + safety(bench)
+
+
 def clicker_scrolls_row(bench):
     """Where there is nothing to step a clicker scrolls."""
     bench.open_fresh(width=1920)
@@ -117,12 +132,14 @@ def exercise_row(bench, folder):
     opened = bench.value("[testName(), drive.words, taught.list.length, byId('task').matches('.met'), byId('about').open]")
     faults = differs("its name", name, "SBF-exercise.html") + differs("opened", opened, ["SBF", [], 0, False, False])
     faults += differs("asked at first", asked, "Can a run end with 0 in P0's EAX and 0 in P1's EAX?")
-    in_sight = "['find-outcomes', 'ask-why', 'exercise'].map(id => byId(id).getClientRects().length > 0)"
-    said = bench.value("[byId('exercise-asked').textContent, byId('task-said').textContent.includes('Can this be done?'), /^(TSO|SC)=/m.test(byId('test').value)]")
-    faults += differs("said", said, ["Exercise: Is it <so>?", True, False]) + differs("before an answer", bench.value(in_sight), [False, False, True])
+    bench.value("byId('test-part').open = true")
+    in_sight = "['find-outcomes', 'ask-why', 'library', 'exercise'].map(id => byId(id).getClientRects().length > 0)"
+    said = bench.value("[byId('exercise-asked').textContent, byId('task-said').textContent.includes('Can this be done?'), /^(TSO|SC|Seen)=/m.test(withoutVerdicts('TSO=allowed\\nSeen=2\\n') + byId('test').value)]")
+    faults += differs("said", said, ["Exercise: Is it <so>?", True, False]) + differs("before an answer", bench.value(in_sight), [False, False, False, True])
     press(bench, "[data-thought=cannot]")
     bench.wait("location.hash.includes('thought=cannot')")
-    faults += differs("after it", bench.value(in_sight), [True, True, True])
+    faults += differs("after it", bench.value(in_sight), [True, True, True, True])
+    bench.value("byId('test-part').open = false; scrollTo(0, 0)")
     faults += differs("the answer", bench.text("#exercise-thought").startswith("You said: it can’t be."), True)
     faults += differs("the focus stays, and nothing moves", bench.value("[document.activeElement.dataset.thought, scrollY]"), ["cannot", 0])
     bench.window.requests.clear()
@@ -307,9 +324,15 @@ def forms_row(bench):
         for form, words in (("as-printed", []), ("as-json", ["--json"]), ("as-printed", [])):
             bench.value("byId('%s').click()" % form)
             wanted = bench.program(given, command, *words)[1]
-            bench.wait("byId('report').textContent !== 'Working …' && byId('report').textContent.startsWith(%s)" % json.dumps(wanted[:8]))
-            faults += differs("%s %s" % (command, form), bench.text("#report"), wanted)
-    bench.value("putCommand('tables'); answerNow()")
+            bench.wait("byId('report').textContent !== 'Working …' && textShown().startsWith(%s)" % json.dumps(wanted[:8]))
+            shown, as_given = bench.text("#report"), bench.value("textShown()")
+            is_same = json.loads(shown) == json.loads(wanted) and shown.count("\n") > 8 if form == "as-json" else shown == wanted
+            faults += differs("%s %s" % (command, form), [is_same, as_given], [True, wanted])
+    bench.value("byId('as-json').click(); ask('why')")
+    bench.wait("!bench.task && document.querySelector('.reason')")
+    is_open = bench.value("[byId('report-part').open, byId('report').textContent.split('\\n')[0]]")
+    faults += differs("JSON that is read, at the next answer", is_open, [True, "{"])
+    bench.value("byId('as-printed').click(); putCommand('tables'); answerNow()")
     faults += differs("of tables, which has one form", bench.value("byId('formats').hidden"), True)
     return faults + safety(bench)
 
@@ -357,6 +380,7 @@ def rows(page, folder):
     return [
         ("a lecture hall", lambda: lecture_hall_row(bench, folder)),
         ("a lecture on false sharing", lambda: lecture_fits_row(bench, folder)),
+        ("each step of a lecture", lambda: each_step_fits_row(bench)),
         ("a clicker that scrolls", lambda: clicker_scrolls_row(bench)),
         ("the line for a shell", lambda: line_row(bench)),
         ("an exercise", lambda: exercise_row(bench, folder)),

@@ -224,7 +224,30 @@ def stepped_row(bench):
     end = bench.text(".cycle .edge-said strong")
     faults += differs("the end", end, "So without store buffers P0:0 W x=1 would be before itself. TSO doesn’t keep the dashed arrows, so this can be.")
     ask(bench, "plain", "tso")
+    faults += differs("without a condition", bench.text(".reason strong"), "The test has no condition: add one, as exists (0:EAX=0).")
     faults += differs("without a cycle", bench.value("[sheet.cycle.last, document.querySelectorAll('[data-edges], .reason [data-edge].later').length]"), [1, 0])
+    return faults + safety(bench)
+
+
+TWO = "X86 two\n{ }\n P0 | P1 | P2 | P3 ;\n MOV [x],$1 | MOV [y],$1 | MOV [z],$1 | MOV [w],$1 ;\n MOV EAX,[y] | MOV EAX,[x] | MOV EAX,[w] | MOV EAX,[z] ;\n" \
+    "exists (0:EAX=0 /\\ 1:EAX=0 /\\ 2:EAX=0 /\\ 3:EAX=0)\n"
+
+
+def told_loads_row(bench):
+    """Each load of which it is told that it passed a store has that arrow, and the arrows begin with one. That one such load is enough is said of one alone,
+    and a fence keeps that order. What is read as another instruction keeps its location's name."""
+    drawn = "sheet.cycle.cycle.filter(({ relation }) => relation === 'unkept').map(({ from, to }) => `${to.split(' ')[0]} passed ${from.split(' ')[0]}`)"
+    faults = []
+    for test, choices in ((TWO, ""), *((text_of("SB"), run) for run in ("", "0s 0s 1s 1d 1s 0d", "1s 1s 0s 0d 0s 1d", "0s 1s 0s 1s 0d 1d"))):
+        bench.load(test, choices)
+        bench.value("%saskWhy()" % ("goTo(6), " if choices else ""))
+        bench.wait("!bench.task && document.querySelector('.reason')")
+        said = bench.text(".reason > p:has(> .fine)")
+        told, arrows = re.findall(r"P\d:\d passed P\d:\d", said), bench.value(drawn)
+        faults += ["%s has no arrow" % each for each in told if each not in arrows] + differs("the first arrow", arrows[0] in told, True)
+        faults += differs("that one is enough", "is enough" in said, len(told) == 1) + differs("what keeps it", "MFENCE or a locked instruction" in said, True)
+    read_as = bench.value("readAsSaid(' LOCK INC [Flag0] | DEC EAX ;\\n')")
+    faults += differs("read as others", read_as, " LOCK INC [Flag0] is read as LOCK ADD [Flag0],$1. DEC EAX is read as SUB EAX,$1.")
     return faults + safety(bench)
 
 
@@ -304,6 +327,6 @@ def rows(page, folder):
         row = allowed_row if told_by(page.program, name, model)["answer"] == "allowed" else never_row
         found.append(("why, %s under %s" % (name, model), lambda row=row, name=name, model=model: row(bench, folder, name, model)))
     return found + [("why, after a reload", lambda: address_row(bench)), ("why, at 360 pixels", lambda: narrow_row(bench, folder)),
-                    ("why, how it can be, step by step", lambda: stepped_row(bench)),
-        ("why, saved", lambda: saved_row(bench)),
+                    ("why, how it can be, step by step", lambda: stepped_row(bench)), ("why, the loads that are told", lambda: told_loads_row(bench)),
+                    ("why, saved", lambda: saved_row(bench)),
                     ("why, the order that isn't kept", lambda: unkept_row(bench)), ("why, in a lecture", lambda: lecture_row(bench, folder))]

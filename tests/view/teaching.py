@@ -33,7 +33,7 @@ def about_row(bench, folder):
     bench.window.resize(1280, 720)
     bench.value("scrollTo(0, 0)")
     words = bench.text("#about").lower()
-    faults = ["it doesn't say " + word for word in ("litmus test", "store buffer", "drain", "memory", "core") if word not in words]
+    faults = ["it doesn't say " + word for word in ("litmus test", "store buffer", "drain", "memory", "core", "x86", "fences") if word not in words]
     faults += [part + " is out of sight" for part in ("#about svg", "#first-lesson", "[data-choice='0s']", ".memory", "#task") if not is_in_sight(bench, part)]
     faults += differs("choices that are known", bench.value("drive.words"), [])
     faults += [] if "at least 6 choices" in bench.text("#sentence") else ["it says " + bench.text("#sentence")]
