@@ -124,7 +124,7 @@ function narrowDrawing(programs, edges, added = 0) {
   return wider.isClear ? wider : drawing;
 }
 
-const GROWN = { most: 1.5, width: 0.36, height: 0.6 };
+const GROWN = { most: 1.8, width: 0.48, height: 0.6 };
 
 /** By how much a picture is larger where the window has room for it, in parts of its measures. */
 function grownBy({ width, height }) {
@@ -151,11 +151,11 @@ function drawEdges(programs, edges, name, isAll = false) {
 
 const chipOf = (relation, isNarrow) => html('span', { class: `relation edge-${relation}` }, letterOf(relation, isNarrow));
 
-/** What the letters at the edges mean. */
-function relationList(edges, isNarrow = false) {
+/** What the arrows mean, and the letters at them. */
+function relationList(edges, isNarrow, arrow) {
   const used = usedRelations(edges);
   const item = relation => html('li', {}, chipOf(relation, isNarrow), ` ${meaningOf(relation, edges)}`);
-  return html('ul', { class: 'small relations', 'aria-label': 'Relations' }, ...used.map(item));
+  return html('ul', { class: 'small relations', 'aria-label': 'Relations' }, html('li', {}, `Arrow: ${arrow}must be before.`), ...used.map(item));
 }
 
 /** The edges of an execution that matter for what a condition names: those at the last load into each of its registers, and at the last write
@@ -195,7 +195,7 @@ function drawExecution(programs, edges, few, panelOf) {
 class CyclePanel {
   /** `end`: what all comes to; `stops`: how many edges each step shows; `isAll`: whether all cores are drawn, null where a box says it. */
   constructor(programs, cycle, { end, name = `A cycle of ${cycle.length} edges`, stops = cycle.map((_, at) => at + 1), isAll = null }) {
-    Object.assign(this, { programs, cycle, name, stops });
+    Object.assign(this, { programs, cycle, name, stops, arrow: isAll === null ? '' : 'without store buffers, ' });
     this.place = html('div', { class: 'pictured-cycle' });
     this.draw(isAll === true);
     this.isNarrow = this.picture.matches('.narrow');
@@ -208,7 +208,7 @@ class CyclePanel {
       .map(([name, text]) => html('button', { type: 'button', 'data-edges': name }, text));
     const tools = html('div', { class: 'buttons' }, ...this.buttons, this.count, ...(isAll === null ? this.allCores() : []));
     this.element = html('div', { class: 'cycle' }, ...(stops.length > 1 ? [tools, this.said] : []),
-      html('div', { class: 'beside' }, this.place, html('div', { class: 'told-edges' }, this.sentences, relationList(cycle, this.isNarrow), this.end)));
+      html('div', { class: 'beside' }, this.place, html('div', { class: 'told-edges' }, this.sentences, this.end)));
     this.show(1);
   }
 
@@ -219,7 +219,7 @@ class CyclePanel {
 
   draw(isAll) {
     this.picture = drawEdges(this.programs, this.cycle, this.name, isAll);
-    this.place.replaceChildren(this.picture);
+    this.place.replaceChildren(this.picture, relationList(this.cycle, this.picture.matches('.narrow'), this.arrow));
     this.place.style.flex = this.picture.style.flex;
   }
 

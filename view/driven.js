@@ -87,7 +87,7 @@ function showPicture() {
   if (drawn.picture === null || drawn.picture.isTooNarrowFor(firstHistory())) makePicture();
   drawn.picture.show(firstHistory(), drive.count);
   const isOver = firstHistory().hasEnded(drive.count), isEmpty = drawn.picture.rows.length === 0;
-  putText(byId('order-title'), isOver ? 'Memory order' : `Memory order so far${isEmpty ? ': nothing yet' : ''}`);
+  putText(byId('order-title'), isOver ? 'Memory order' : isEmpty ? 'Memory order: nothing in memory yet' : 'Memory order so far');
   byId('frame').classList.toggle('full', drawn.picture.bottom - HEAD > (isLecture() ? LECTURE_MOST : FRAME_MOST) * innerHeight);
 }
 
@@ -135,10 +135,11 @@ function showPasses(history) {
   drawn.passes.show(history.order, history.momentAfter(drive.count).rows, history.hasEnded(drive.count));
 }
 
-/** The condition before the test has ended: in words, where it speaks of words at places alone, and as it is written. */
+/** The condition before the test has ended: in words, where it speaks of words at places alone, and as it is written; in a lecture in words. */
 function conditionSentence({ proposition }) {
   if (proposition === null) return 'Condition: the test has none.';
   const wanted = wantedWords(proposition), inWords = wanted === null ? '' : `${wantedSentence(wanted)}, written `;
+  if (isLecture() && wanted !== null) return `Condition: ${wantedSentence(wanted)}.`;
   return `Condition: ${inWords}${proposition}.`;
 }
 

@@ -142,8 +142,9 @@ function refuseInLesson(wanted) {
 
 /** Whether a lesson tells what happens, so that the sentence over the machine needn't. At its last step each choice is free. */
 function lessonTells() {
-  if (lesson.told === null || lesson.at === lesson.told.steps.length - 1) return false;
-  const { do: word, then } = stepNow();
+  if (lesson.told === null) return false;
+  const { steps } = lesson.told, { at } = lesson, { do: word, then } = stepNow();
+  if (at === steps.length - 1) return drive.words.slice(0, drive.count).join() === choicesBefore(steps, at).join();
   return word === undefined || then !== undefined;
 }
 

@@ -154,7 +154,7 @@ class CorePanel {
   }
 
   showButtons(core, bus, hasEnded) {
-    const texts = buttonTexts(this.program, core, bus, this.core), stalls = knownStalls(this.program, core, this.depth);
+    const isFinished = this.program[core.place] === undefined, texts = buttonTexts(this.program, core, bus, this.core), stalls = knownStalls(this.program, core, this.depth);
     this.hasOffered = false;
     this.step.dataset.waits = hasEnded ? '' : waitsFor(this.program, core, this.depth);
     for (const way of ['step', 'drain']) {
@@ -162,7 +162,7 @@ class CorePanel {
       setAll(this[way], { 'aria-label': `P${this.core}: ${way} ${texts[way]}` });
       this[way].disabled = hasEnded;
       this[way].classList.toggle('idle', stalls[way]);
-      this.stalls[way].hidden = hasEnded || !stalls[way];
+      this.stalls[way].hidden = hasEnded || !stalls[way] || (way === 'step' && isFinished);
       this.stalls[way].classList.remove('offered');
     }
   }

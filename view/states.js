@@ -76,7 +76,7 @@ function statesSheet(outcomes, sequential, truths) {
   const words = sequential ? [html('p', { class: 'small faint alone-said' }, `${isAlone ? '“TSO alone”: it needs store buffers. ' : ''}SC is sequential consistency: no store buffers.`)] : [];
   const key = html('p', { class: 'small faint key' }, keySaid(Object.keys(outcomes.states[0].values)));
   const programs = html('p', { class: 'programs' }, ...programLines(readTest(inputOf('outcomes')).programs));
-  const sheet = html('div', { class: 'states-sheet' }, programs, ...words, ...(outcomes.states.length > 1 ? [tools] : []), ...depthNote(outcomes), table, more, key);
+  const sheet = html('div', { class: 'states-sheet' }, programs, html('div', { class: 'states-told' }, ...words, ...(outcomes.states.length > 1 ? [tools] : []), ...depthNote(outcomes), table, more, key));
   if (outcomes.states.length > 1) filterStates(sheet);
   return [sheet];
 }

@@ -153,8 +153,8 @@ function sequentialPart({ model, asked: wanted }) {
   if (model !== 'tso' || wanted === null) return [];
   const place = html('p', { class: 'sequential', role: 'status' });
   const say = ([{ status, text }]) => {
-    const word = status !== Tso.STATUS.good ? '' : JSON.parse(text).answer === 'allowed' ? 'yes too' : 'no';
-    if (word !== '') putText(place, `Under sequential consistency: ${word}.`);
+    const word = status !== Tso.STATUS.good ? '' : JSON.parse(text).answer === 'allowed' ? 'it can be too, so no fence forbids it' : 'it can\'t be';
+    if (word !== '') putText(place, `Without store buffers (sequential consistency): ${word}.`);
   };
   const { answers } = beginTask(bench.bytes, [{ command: 'why', json: true, model: 'sc', cases: POSSIBLE_CASES }], inputOf('why'));
   answers.then(say).catch(() => place.remove());
@@ -190,9 +190,9 @@ function passesPart(loads, named, cycle) {
   if (passes.length === 0) return [];
   const title = isOne ? 'A load passes a store' : 'Loads pass stores', more = passes.splice(MOST_PASSES).length;
   if (more > 0) passes.push(`And ${more} more.`);
-  const after = ' This is the one order of a program that TSO doesn’t keep. MFENCE or a locked instruction between the store and the load would keep it.' +
-    `${isOne ? ' One load that passes its store is enough.' : ''} In another run that ends so, other loads may pass.`;
-  return [html('p', {}, html('strong', {}, `${title} in ${named}: `), passes.join(' '), html('span', { class: 'fine' }, after))];
+  const enough = isOne ? ' One load that passes its store is enough.' : '', after = ' This is the one order of a program that TSO doesn’t keep. ' +
+    'MFENCE or a locked instruction between the store and the load would keep it. In another run that ends so, other loads may pass.';
+  return [html('p', {}, html('strong', {}, `${title} in ${named}: `), passes.join(' ') + enough, html('span', { class: 'fine' }, after))];
 }
 
 /** Marks a step of the tree, and opens the cases that it is in. */

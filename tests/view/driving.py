@@ -19,7 +19,8 @@ def faults_of_dead(bench, word, step):
     shown = bench.value(SHOWN)[0]["cores"][core]
     stalls = step["outcome"] == "stalled"
     faults = ["%s looks dead, and does something" % word] if shown["dead"][way] and not stalls else []
-    faults += ["%s: a button offers to stall where it is %s" % (word, shown["offers"][way])] if shown["offers"][way] != shown["dead"][way] else []
+    is_offered = shown["dead"][way] and shown["buttons"][way] != "finished"
+    faults += ["%s: a button offers to stall where it is %s" % (word, shown["offers"][way])] if shown["offers"][way] != is_offered else []
     if stalls:
         bench.value("document.querySelector('[data-choice=\"%s\"]').click()" % word)
         faults += differs("after a dead button", bench.value("[drive.words, drive.count]"), before)

@@ -189,13 +189,13 @@ def unkept_row(bench):
     letters = "[...document.querySelectorAll('.reason [data-letters] text')].map(each => each.textContent).sort()"
     sequential = "(document.querySelector('.sequential')?.textContent ?? '')"
     faults = []
-    for name, arrows, said in (("SB", ["fr", "fr", "po, not kept", "po, not kept"], "no"), ("R", ["co", "fr", "po", "po, not kept"], "no"), ("plain", [], "")):
+    for name, arrows, said in (("SB", ["fr", "fr", "po, not kept", "po, not kept"], "it can't be"), ("R", ["co", "fr", "po", "po, not kept"], "it can't be"), ("plain", [], "")):
         bench.open()
         ask(bench, name, "tso")
         faults += differs("arrows of " + name, [each for each in bench.value(letters) if arrows], arrows)
         if said:
             bench.wait(sequential + " !== ''")
-            faults += differs("the other model", bench.value(sequential), "Under sequential consistency: %s." % said)
+            faults += differs("the other model", bench.value(sequential), "Without store buffers (sequential consistency): %s." % said)
     bench.fill("test", MANY_PASS)
     bench.value("putCommand('why'); begin()")
     bench.wait("!bench.task && document.querySelector('.reason')")
