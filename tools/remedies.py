@@ -30,7 +30,7 @@ IN_REGISTERS = re.compile(r"(?i)sh[lr][lq]?\s+(?:REG\s*,\s*(?:REG|\$?\d+)|\$\d+\
 COMPUTES = "%s isn't read: leave it out, and where its result is used write the number that is meant, as MOV [x],$2"
 
 # Of one that computes in memory without LOCK, and in registers with it.
-THREE = "without LOCK write three cells: MOV %s,[%s]  %s %s  MOV [%s],%s, with a free register for %s"
+THREE = "in one step it is LOCK %s %s; without LOCK write three cells: MOV %s,[%s]  %s %s  MOV [%s],%s, with a free register for %s"
 NOT_LOCKED = "LOCK stands before an instruction that computes in memory alone"
 
 
@@ -46,7 +46,8 @@ def of_a_step(cell):
     place, mnemonic, others = cell.operands[0].base, cell.mnemonic.upper(), [str(one).lstrip("%").upper() for one in cell.operands[1:]]
     free = "EBX" if others == ["EAX"] else "EAX"
     value = ["$" + one if isinstance(operand, int) else one for one, operand in zip(others, cell.operands[1:])]
-    return THREE % (free, place, mnemonic, ",".join([free] + value), place, free, free)
+    in_one_step = ",".join(["[%s]" % place] + value)
+    return THREE % (mnemonic, in_one_step, free, place, mnemonic, ",".join([free] + value), place, free, free)
 
 
 def remedy(text, mnemonic, is_locked):

@@ -1,15 +1,15 @@
 //! What is said of an instruction in an assembler's language, in AT&T's syntax or in Intel's: the cells that do the same here. It is said
 //! only where all of the instruction is known; a guess could turn a load into a store.
 
-use crate::assembled::{Instruction, Pair, alone_in, instruction_in, pair_in};
+use crate::assembled::{Instruction, Order, Pair, alone_in, instruction_in, pair_in};
 use crate::computed::{says_changed, says_combined, says_compare_exchange};
 use crate::line::{Filling, Line};
 use crate::mnemonics::{Kind, kind_of, larger_of};
-use crate::moves::{STACK, says_address, says_locked, says_locked_fence, says_move};
+use crate::moves::{STACK, location_of, says_address, says_locked, says_locked_fence, says_move};
 use crate::operand::{Operand, operand_in};
 use crate::operands::said_of_sum;
 use crate::quotes::{digits_and_letters, up_to};
-use crate::registers::is_stack_pointer;
+use crate::registers::{is_stack_pointer, parent_of};
 use crate::tables::{begins_with_one_of, is_one_of};
 use tso_terms::names::continues_name;
 
@@ -34,6 +34,9 @@ const COMPUTES: &str =
 
 const LOADS_AND_COMPUTES: &str =
     "{} isn't read: write a load, as MOV EAX,[{}] with a free register for EAX, and where the result is used the number that is meant, as MOV [y],$2";
+
+const LOCKED_STORE: &str =
+    "{}: LOCK doesn't go with MOV: a store that is a fence too is XCHG [{}],{}";
 
 const ADDRESS: &str =
     "{}: in AT&T's syntax a number without $ is an address, and none is read: write $ before a value, and a location by its name, as [x]";
@@ -81,9 +84,10 @@ fn says_pair(line: &mut Line, kind: Kind, pair: &Pair<'_>) -> bool {
             line.say_of(ADDRESS, pair.cell);
             true
         }
+        Kind::Move if pair.is_locked => says_locked_store(line, pair) || says_move(line, pair),
         Kind::Move => says_move(line, pair),
         Kind::Exchange => says_locked(line, pair, false),
-        Kind::Add if pair.is_locked => says_locked(line, pair, true),
+        Kind::Add => says_addition(line, pair),
         Kind::CompareExchange => says_compare_exchange(line, pair),
         Kind::Combine => says_combined(line, pair),
         Kind::Compute if pair.is_locked => says_locked_fence(line, pair),
@@ -92,6 +96,47 @@ fn says_pair(line: &mut Line, kind: Kind, pair: &Pair<'_>) -> bool {
         Kind::Compute => says_computed(line, pair),
         _ => false,
     }
+}
+
+/// Of a move to a location that is locked: the exchange that has the order of a fence. Whether its operands are known.
+fn says_locked_store(line: &mut Line, pair: &Pair<'_>) -> bool {
+    let Some(to) = location_of(pair.to) else {
+        return false;
+    };
+    if pair.is_narrow || !to.holder.is_empty() || matches!(pair.order, Order::Mixed) {
+        return false;
+    }
+    let reg = match pair.from {
+        Operand::Number(_) => Some("EAX"),
+        Operand::Register(reg) => parent_of(reg),
+        _ => None,
+    };
+    let Some(reg) = reg else {
+        return false;
+    };
+    line.say_with(
+        LOCKED_STORE,
+        &[
+            Filling::Named(pair.cell),
+            Filling::Shown(to.name),
+            Filling::Text(reg),
+        ],
+    );
+    match pair.from {
+        Operand::Number(value) => line.say_number(", with {} in EAX", value as usize),
+        _ => line.say_with(", where {} gets the old word", &[Filling::Text(reg)]),
+    }
+    true
+}
+
+/// Of an addition with an exchange, which is read with LOCK alone. Whether it is known what does the same.
+fn says_addition(line: &mut Line, pair: &Pair<'_>) -> bool {
+    let is_known = says_locked(line, pair, true);
+    let has_location = location_of(pair.to).is_some() || location_of(pair.from).is_some();
+    if is_known && has_location && !pair.is_locked {
+        line.say("; without LOCK it isn't read");
+    }
+    is_known
 }
 
 /// Of a compare with a location. Whether it is one.

@@ -1,7 +1,7 @@
 //! What is said of arithmetic and of a compare with an exchange in an assembler's language: the cells that do the same here.
 
 use crate::assembled::{Order, Pair};
-use crate::larger_set::{Source, say_three};
+use crate::larger_set::{Source, say_lock_or_three};
 use crate::line::Line;
 use crate::mnemonics::larger_of;
 use crate::moves::{
@@ -53,7 +53,7 @@ fn says_apart(line: &mut Line, pair: &Pair<'_>, name: &'static str, to: Location
     };
     let is_known = !matches!(pair.order, Order::Mixed) && is_of_words(pair, to);
     if is_known {
-        say_three(line, pair.cell, name, to.name, source);
+        say_lock_or_three(line, pair.cell, name, to.name, source);
     }
     is_known
 }
@@ -118,7 +118,7 @@ pub fn says_changed(line: &mut Line, pair: &Pair<'_>) -> bool {
         (Some(to), _) => {
             let is_known = is_of_words(pair, to);
             if is_known {
-                say_three(line, pair.cell, name, to.name, Source::None);
+                say_lock_or_three(line, pair.cell, name, to.name, Source::None);
             }
             return is_known;
         }

@@ -192,7 +192,10 @@ pub static LOCKED: [Alike; 6] = [
         "BT",
         "{} isn't read: a lock is taken by MOV EAX,$1, and in the next cell XCHG [x],EAX",
     ),
-    Alike("MOV", "{} can't be locked: leave LOCK out"),
+    Alike(
+        "MOV",
+        "LOCK doesn't go with {}: leave it out; a store that is a fence too is XCHG [x],EAX",
+    ),
     Alike(
         "MFENCE",
         "{} takes no LOCK: the fence is MFENCE alone in its cell",

@@ -21,6 +21,9 @@ const NEEDLESS_LOCK: &str =
 
 const NARROW: &str = "{} isn't read: each access is to a whole word of 32 bits";
 
+/// Maximum length of a location's name for which a hint has room for what is done with LOCK and for three instructions.
+const MAX_NAME: usize = 10;
+
 /// Says of a cell that it spells an instruction of the larger set, or would with LOCK or without it. Whether it does. Where that set is
 /// asked for, no cell that is refused spells one.
 ///
@@ -131,6 +134,14 @@ fn says_lockless(line: &mut Line, cell: &[u8], locked: &[Token<'_>]) -> bool {
             line.say_option();
             return true;
         }
+        Some(Form::At(Use::Xadd, loc, reg)) => {
+            line.say_of(WITHOUT_LOCK, cell);
+            line.say_with(
+                "LOCK XADD [{}],{}",
+                &[Filling::Shown(loc), Filling::Text(reg.name())],
+            );
+            return true;
+        }
         Some(Form::LockedImm(_, loc, Constant::Spelled(numeral))) => match word_at(0, numeral) {
             Ok(value) => (loc, Source::Number(value)),
             Err(_) => return false,
@@ -142,7 +153,7 @@ fn says_lockless(line: &mut Line, cell: &[u8], locked: &[Token<'_>]) -> bool {
         _ => return false,
     };
     match larger_of(digits_and_letters(cell)) {
-        Some(name) => say_three(line, cell, name, loc, source),
+        Some(name) => say_lock_or_three(line, cell, name, loc, source),
         None => return false,
     }
     true
@@ -164,23 +175,52 @@ fn say_store<'a>(line: &mut Line, loc: &'a [u8], reg: &'a str) {
     line.say_with("  MOV [{}],{}", &[Filling::Shown(loc), Filling::Text(reg)]);
 }
 
-/// Says the three instructions that one is which computes in this location without LOCK.
-pub fn say_three(line: &mut Line, cell: &[u8], name: &'static str, loc: &[u8], source: Source) {
-    let free = match source {
-        Source::Register(reg) if is_one_of("EAX", reg.as_bytes()) => "EBX",
-        _ => "EAX",
-    };
-    line.say_of("{}: without LOCK write three cells: ", cell);
-    say_load(line, free, loc);
-    line.say_with("  {} {}", &[Filling::Text(name), Filling::Text(free)]);
+/// What stands behind the word that is changed.
+fn say_source(line: &mut Line, source: Source) {
     match source {
         Source::None => {}
         Source::Number(number) => line.say_number(",${}", number as usize),
         Source::Register(reg) => line.say_with(",{}", &[Filling::Text(reg)]),
     }
+}
+
+/// Says what an instruction that computes in this location is with LOCK, and what without it.
+pub fn say_lock_or_three(
+    line: &mut Line,
+    cell: &[u8],
+    name: &'static str,
+    loc: &[u8],
+    source: Source,
+) {
+    line.say_with(
+        "{}: in one step it is LOCK {} [{}]",
+        &[
+            Filling::Named(cell),
+            Filling::Text(name),
+            Filling::Shown(loc),
+        ],
+    );
+    say_source(line, source);
+    if loc.len() > MAX_NAME {
+        line.say("; without LOCK write a load, the same in a register, and a store");
+    } else {
+        say_three(line, name, loc, source);
+    }
+    line.say_option();
+}
+
+/// Says the three instructions that one is which computes in this location without LOCK.
+fn say_three(line: &mut Line, name: &'static str, loc: &[u8], source: Source) {
+    let free = match source {
+        Source::Register(reg) if is_one_of("EAX", reg.as_bytes()) => "EBX",
+        _ => "EAX",
+    };
+    line.say("; without LOCK write three cells: ");
+    say_load(line, free, loc);
+    line.say_with("  {} {}", &[Filling::Text(name), Filling::Text(free)]);
+    say_source(line, source);
     say_store(line, loc, free);
     line.say_with(", with a free register for {}", &[Filling::Text(free)]);
-    line.say_option();
 }
 
 /// Says of an instruction of the larger set, perhaps with the size of its operands, which forms it has. Whether a word names one.

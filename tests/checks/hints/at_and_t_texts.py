@@ -16,7 +16,7 @@ from .hint_changes import followed
 SEED, COUNT = 1, 200
 
 # Instructions that tools/import refuses, and for which no hint knows another form.
-REFUSED = ("movl $1,(%rsi)", "movl %eax,(%rsi)", "movb $1,(x)", "lock xaddq %rax,(x)", "xaddl %eax,(x)",
+REFUSED = ("movl $1,(%rsi)", "movl %eax,(%rsi)", "movb $1,(x)", "lock xaddq %rax,(x)",
            "MOV EAX,(x)", "MOV (x),EAX", "movl %eax,[x]", "movl [x],%eax")
 
 # The registers of 64 bits, each with its part of 32 bits.
