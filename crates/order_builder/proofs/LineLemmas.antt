@@ -1,13 +1,14 @@
 -- Texts that are split_once at a byte, and their lines.
-use Rattle.order_builder.proofs.Vocabulary.{◌≡◌, ℕ, ◌+◌, ◌-◌, ◌<◌, ◌≤◌, Bool, true, false, ltb, eqb, List, [], ◌∷◌, ◌++◌, length, get_or}
+use Rattle.order_builder.proofs.Vocabulary.{◌≡◌, ℕ, zero, suc, ◌+◌, ◌-◌, ◌<◌, ◌≤◌, Bool, true, false, ltb, eqb, List, [], ◌∷◌, ◌++◌, length, get_or}
 use Rattle.order_builder.proofs.Vocabulary.{take, take_all, drop, Option, Some, None, All, refl, sym, ap, subst, ◌∙◌, inl, inr, arith}
 use Rattle.order_builder.proofs.Vocabulary.{position, position_or_len, slice_split, option_map, strip_carriage_return, lt-ltb, le-ltb}
 use Rattle.order_builder.proofs.Vocabulary.{ltb-false, eqb-true, nat_tests, take_at, drop_at, append_assoc, length-append, length-drop}
 use Rattle.order_builder.proofs.Vocabulary.{length-take, get_or-take, get_or_at, get_or_append_left, length_push, take-append-drop}
 use Rattle.order_builder.proofs.Vocabulary.{drop_more, nil_from_length, All-get_or, All-from_get_or, position-Some, position_or_len_is}
 use Rattle.order_builder.proofs.Vocabulary.{fails_before_first, count_by-le-length, slice_split_none, slice_split_at, length-slice_split}
-use Rattle.order_builder.proofs.Vocabulary.{lines_in, lines_of, is_line_feed, split_once, halves_at}
-use Rattle.order_builder.proofs.Choosing.{chosen}
+use Rattle.order_builder.proofs.Vocabulary.{lines_in, lines_of, is_line_feed, split_once, halves_at, rest_of, after_line}
+use Rattle.order_builder.proofs.Vocabulary.{IsFirstOfLines, order_start, bytes_eq, codes, slice_get}
+use Rattle.order_builder.proofs.Choosing.{chosen, bytes_eq-other}
 
 -- no byte of the text is this one
 abbrev pub Lacks : ℕ → List ℕ → Type 0
@@ -129,6 +130,60 @@ pub lines_of-alone : (text : List ℕ) → None ≡ split_once 10 text → 0 < l
 lines_of-alone text e some =
     lines_of-last text (split_once-None 10 text (sym e)) some
     ∙ ap (λ (l : List (List ℕ)). strip_carriage_return text ∷ l) (sym (lines_of-nil [] refl))
+
+-- ---- a first line that isn't `Order`
+
+first_of_front : (line : List ℕ) (n b : ℕ) (bs : List ℕ) → take n line ≡ b ∷ bs → get_or line 0 0 ≡ b
+first_of_front line zero b bs e = absurd cc
+first_of_front [] (suc n) b bs e = absurd cc
+first_of_front (c ∷ cs) (suc n) b bs e = cc
+
+first_kept : (line : List ℕ) (b : ℕ) (bs : List ℕ) → strip_carriage_return line ≡ b ∷ bs → get_or line 0 0 ≡ b
+first_kept line b bs e =
+    elim (chosen (eqb (get_or line (length line - 1) 0) 13) (take (length line - 1) line) line (b ∷ bs) e) [
+      | inl hit ↦ first_of_front line (length line - 1) b bs hit.1
+      | inr miss ↦ ap (λ (l : List ℕ). get_or l 0 0) miss.1
+    ]
+
+still_first : (line more : List ℕ) → get_or line 0 0 ≡ 79 → get_or (line ++ more) 0 0 ≡ 79
+still_first [] more e = absurd cc
+still_first (b ∷ bs) more e = e
+
+other_line : (line : List ℕ) → (get_or line 0 0 ≡ 79 → ⊥) → bytes_eq (strip_carriage_return line) (codes "Order") ≡ false
+other_line line other = bytes_eq-other (strip_carriage_return line) (codes "Order") (λ same. other (first_kept line 79 (codes "rder") same))
+
+other_half : (text : List ℕ) (o : Option (List ℕ × List ℕ)) → o ≡ split_once 10 text → 0 < length text → (get_or text 0 0 ≡ 79 → ⊥)
+    → IsFirstOfLines false (lines_of (rest_of o)) (lines_of text)
+other_half text (Some (line, rest)) e some other =
+    let whole : text ≡ line ++ 10 ∷ rest = (split_once-Some 10 text line rest (sym e)).0 in
+    let begins : get_or line 0 0 ≡ 79 → ⊥ = λ first. other (ap (λ (l : List ℕ). get_or l 0 0) whole ∙ still_first line (10 ∷ rest) first) in
+    (strip_carriage_return line, lines_of-split_once text line rest e, other_line line begins)
+other_half text None e some other = (strip_carriage_return text, lines_of-alone text e some, other_line text other)
+
+-- the first line of a text that doesn't begin with `O`
+pub other_first : (text : List ℕ) (first : ℕ) → Some first ≡ slice_get text 0 → (first ≡ 79 → ⊥)
+    → IsFirstOfLines false (lines_of (after_line text)) (lines_of text)
+unfolding after_line
+other_first [] first e other = absurd cc
+other_first (b ∷ bs) first e other = other_half (b ∷ bs) (split_once 10 (b ∷ bs)) refl (omega arith) (λ is. let same : first ≡ b = cc in other (same ∙ is))
+
+-- ---- where `Order` is, by the first line
+
+pub start_here : (n : ℕ) (lines after : List (List ℕ)) (found : Option (ℕ × List (List ℕ))) → IsFirstOfLines true after lines
+    → order_start n lines ≡ found → Some (n + 1, after) ≡ found
+unfolding order_start
+start_here n lines after found first so_far =
+    let here : order_start n (first.0 ∷ after) ≡ Some (n + 1, after) = rw first.2 refl in
+    sym here ∙ ap (order_start n) (sym first.1) ∙ so_far
+
+pub start_later : (n : ℕ) (lines after : List (List ℕ)) (found : Option (ℕ × List (List ℕ))) → IsFirstOfLines false after lines
+    → order_start n lines ≡ found → order_start (n + 1) after ≡ found
+unfolding order_start
+start_later n lines after found first so_far =
+    let later : order_start n (first.0 ∷ after) ≡ order_start (n + 1) after = rw first.2 refl in
+    sym later ∙ ap (order_start n) (sym first.1) ∙ so_far
+
+-- ---- how many lines there are
 
 lines_in-length : (parts : List (List ℕ)) → length (lines_in parts) ≤ length parts
 lines_in-length [] = omega arith

@@ -11,9 +11,9 @@ pub use Rattle.order_builder.specs.PrintedOrder.{IsLocationFor, HasLocation, pri
 pub use Rattle.order_builder.specs.PrintedOrder.{printed_access, printed_lines, printed_order, HasWord}
 pub use Rattle.std.proofs.lemmas.List.Elements.{All-weaker, All-cons, All-nil, All-head, All-tail, All-get_or, All-append, All-from_get_or}
 pub use Rattle.order_builder.specs.Reading.{entries_of_order, Gives}
-pub use Rattle.order_builder.specs.inner.Reading.{onto, ◌>>=◌, entry_at, numeral, halves_at}
+pub use Rattle.order_builder.specs.inner.Reading.{onto, ◌>>=◌, entry_at, numeral, halves_at, rest_of, IsFirstOfLines}
 unfoldable pub use Rattle.order_builder.specs.inner.Reading.{order_of, order_start, entries_in, entry_in, end_in, location_named}
-unfoldable pub use Rattle.order_builder.specs.inner.Reading.{split_once, without_prefix, kind_of, place_in, access_in, action_in}
+unfoldable pub use Rattle.order_builder.specs.inner.Reading.{split_once, after_line, without_prefix, kind_of, place_in, access_in, action_in}
 pub use Rattle.order_builder.specs.Lines.{lines_in, is_line_feed}
 unfoldable pub use Rattle.order_builder.specs.Lines.{lines_of}
 pub use Rattle.order_builder.specs.declared.fault.OrderFault.{OrderFault}
@@ -25,7 +25,7 @@ unfoldable pub use Rattle.tso_terms.specs.Decimals.{decimal_from}
 pub use Rattle.std.specs.Char.{is_ascii_digit}
 pub use Rattle.std.specs.Fmt.{decimal, digits_onto, digit_glyph}
 unfoldable pub use Rattle.std.specs.Fmt.{digits}
-pub use Rattle.std.specs.List.{list_all, list_any, position, position_or_len, slice_split}
+pub use Rattle.std.specs.List.{list_all, list_any, position, position_or_len, slice_get, slice_split}
 pub use Rattle.std.specs.Str.{bytes_eq}
 pub use Rattle.std.proofs.lemmas.List.Quantifiers.{position-Some}
 pub use Rattle.tso_terms.specs.Names.{is_name, is_location_name, begins_name, continues_name, is_among}

@@ -4,7 +4,7 @@ ghost use Rattle.std.specs.Prelude.{◌≡◌, ◌<◌, ◌∷◌, [], length, I
 ghost use Rattle.std.specs.Option.{option_map};
 ghost use Rattle.std.specs.Str.Lines.{strip_carriage_return};
 ghost use Rattle.order_builder.specs.Lines.{lines_of};
-ghost use Rattle.order_builder.specs.inner.Reading.{split_once, without_prefix};
+ghost use Rattle.order_builder.specs.inner.Reading.{split_once, after_line, without_prefix};
 
 /// What comes before the first such byte, and what after it; `None` where there is no such byte.
 pub fn split_once(text: &[u8], byte: u8) -> Option<(&[u8], &[u8])>
@@ -25,6 +25,18 @@ pub fn without_prefix<'a>(text: &'a [u8], prefix: &[u8]) -> Option<&'a [u8]>
     ensures { option_map (λ rest. rest.now) result ≡ without_prefix prefix.now text.now }
 {
     text.strip_prefix(prefix)
+}
+
+/// What comes after the first line of a text.
+#[tactic(auto, unfolding(crate::specs::inner::Reading::after_line))]
+pub fn after_line(text: &[u8]) -> &[u8]
+    ensures value { result.now ≡ after_line text.now }
+    ensures shorter { 0 < length text.now → length result.now < length text.now }
+{
+    match split_once(text, b'\n') {
+        Some((_, rest)) => rest,
+        None => &[],
+    }
 }
 
 /// The first line of a text, without a carriage return at its end, and what comes after it;
