@@ -1,22 +1,23 @@
 -- A choice on a split bus that isn't the holder's next one.
-use Rattle.machine_core.proofs.Vocabulary.{◌≡◌, ◌≢◌, ℕ, ◌<◌, ◌++◌, Bool, true, false, List, [], Option, None, Some, Result, Ok, Err, IfOk}
+use Rattle.machine_core.proofs.Vocabulary.{◌≡◌, ◌≢◌, ℕ, ◌++◌, Bool, true, false, List, [], Option, None, Some, Result, Ok, Err, IfOk}
 use Rattle.machine_core.proofs.Vocabulary.{OnOk, OnErr, inr, length, slice_set, append-nil, refl, sym, ap, ◌∙◌, subst, set-get_or, Litmus}
 use Rattle.machine_core.proofs.Vocabulary.{CoreState, Effect, stalled, after_choice, chosen, core_of, idle, MemoryAccess, NoAccess, Reads}
-use Rattle.machine_core.proofs.Vocabulary.{Writes, Locks, access_of, Holder, Free, HeldBy, HeldBetween, Attempt, BusEffect, acts, asks}
-use Rattle.machine_core.proofs.Vocabulary.{needs_bus, same_choice, BusState, HitFits, NoMemory, Split, Core, Loc, Entry, Choice, Outcome}
-use Rattle.machine_core.proofs.Vocabulary.{HolderFits, BusModel, words_of, cores_of, holder_of, IsSameMachine, AsksFor, Locked, Unused}
+use Rattle.machine_core.proofs.Vocabulary.{Writes, Locks, access_of, Holder, Free, HeldBy, HeldBetween, BusEffect, acts, asks}
+use Rattle.machine_core.proofs.Vocabulary.{needs_bus, same_choice, BusState, NoMemory, Split, Core, Loc, Entry, Choice, Outcome}
+use Rattle.machine_core.proofs.Vocabulary.{HolderFits, BusModel, words_of, cores_of, holder_of, IsSameMachine, AsksFor, Unused}
 use Rattle.machine_core.proofs.Vocabulary.{Next, Complete, Write, Hardware, Way, by_way, Caches, Used, caches_of, at_access, ask_by}
 use Rattle.machine_core.proofs.Vocabulary.{not_through, hits_by, is_awaited, used_between, completing_by, use_of, HardwareFitsTest}
 use Rattle.machine_core.proofs.Vocabulary.{IsHeldForAccess, held_as, held_for, core_in, holder_by, state_in, ChoiceAnswer, HasUsed}
-use Rattle.machine_core.proofs.Vocabulary.{HasEffect, MayAct, attempt_in, flat_effect_in, use_by, IsOther, needed_by, IsAccessAmong}
+use Rattle.machine_core.proofs.Vocabulary.{HasEffect, MayAct, attempt_in, flat_effect_in, use_by, IsOther, needed_by, needed_in}
 use Rattle.machine_core.proofs.Vocabulary.{begins_in, HasMade, IsUndone, effect_made_in}
-use Rattle.tso_terms.specs.FlatMachine.{State}
+use Rattle.tso_terms.specs.FlatMachine.{State, applied}
 use Rattle.multiprocessor.specs.declared.accesses.CacheUse.{CacheUse}
 use Rattle.multiprocessor.specs.declared.accesses.CacheUse.TheVariants as cache_use
 use Rattle.snoop_bus.specs.declared.access.BusRequest.{BusRequest}
 use Rattle.std.proofs.Common.{option_map}
 use Rattle.tso_terms.specs.declared.choice.Stall.TheVariants as stall
 use Rattle.tso_terms.specs.declared.choice.Outcome.TheVariants.{Asked}
+use Rattle.multiprocessor.specs.Caches.{would_hit}
 use Rattle.snoop_bus.specs.Held as bus
 use Rattle.snoop_bus.specs.declared.holding.BusAction as bus_action
 use Rattle.multiprocessor.specs.declared.turn.Way.TheVariants as way
@@ -98,18 +99,6 @@ held-next (Err x) t m new choice held other fits waits config same done err =
     ∙ ap (λ (s : BusState). held_as t m.config.depth s.flat s.holder) (sym err.state)
     ∙ ap (λ c. held_as t c.depth (state_in new).flat (state_in new).holder) (sym config)
 
--- the caches' answer fits
-pub answer-fits : (t : Litmus) (depth : ℕ) (state : State) (a : Attempt) (b : BusModel) (holder : Holder) → holder_of b ≡ held_as t depth state holder
-    → ((e : Entry) (loc : Loc)
-    → holder_of b ≡ Some (bus.holder e.core e.loc Locked)
-    → access_of t depth state a.choice ≡ Writes loc
-    → a.hits ≡ true
-    → chosen a.choice ≢ e.core.0
-    → loc.0 ≢ e.loc.0)
-    → HitFits t depth state a holder
-answer-fits t depth state a b (HeldBetween e) held taken = λ loc. taken e loc held
-answer-fits t depth state a b _ held taken = tt
-
 -- nothing but the caches and who holds the bus changes
 pub rests-at : (state : State) (core : ℕ) → record { memory = state.memory; cores = slice_set state.cores core (core_of state core) } ≡ state
 rests-at state core = rw (set-get_or state.cores core idle) refl
@@ -136,62 +125,46 @@ use-rests t m choice f s e none =
     ∙ ap (use_of (caches_of m.bus) (core_of (state_in m).flat (chosen choice)).pending) none in
     subst (λ u. HasUsed u m.bus Unused) (sym same) (record { how_is = refl; caches = refl })
 
-pub performs-ask : {P : Type 0} (t : Litmus) (m new : Hardware P) (choice : Choice)
-    → needs_in t m choice ≡ true
-    → (state_in m).holder ≡ Free
+pub performs-ask : {P : Type 0} (t : Litmus) (m new : Hardware P) (choice : Choice) (f : BusEffect)
+    → f ≡ asks (core_of (state_in m).flat (chosen choice)) choice Free
     → new.processors.items ≡ m.processors.items
     → words_of new.bus ≡ words_of m.bus
     → (state_in new).holder ≡ HeldBy choice
     → new.commits.entries ≡ m.commits.entries
-    → HasEffect m new choice (begins_in t m choice) Asked
-performs-ask t m new choice needs free processors words holder commits =
-    let same : begins_in t m choice ≡ acts (record { outcome = Asked; after = core_of (state_in m).flat (chosen choice); commits = [] }) (HeldBy choice) =
-    begins-asks t m choice needs ∙ ap (asks (core_of (state_in m).flat (chosen choice)) choice) free in
-    let all : HasEffect m new choice
-    (acts (record {
-      outcome = Asked;
-      after = core_of (state_in m).flat (chosen choice);
-      commits = [];
-    }) (HeldBy choice))
-    Asked =
+    → HasEffect m new choice f Asked
+performs-ask t m new choice f asks processors words holder commits =
     record {
-      outcome = refl;
-      flat = rw (processors, words) (sym (rests-at (state_in m).flat (chosen choice)));
-      holder = holder;
-      commits = commits ∙ sym (append-nil m.commits.entries);
-    } in
-    subst (λ g. HasEffect m new choice g Asked) (sym same) all
+      outcome = ap (λ (g : BusEffect). g.effect.outcome) (sym asks);
+      flat =
+          rw (processors, words)
+          (sym (ap (λ (g : BusEffect). applied (state_in m).flat (chosen choice) g.effect) asks ∙ rests-at (state_in m).flat (chosen choice)));
+      holder = holder ∙ ap (λ (g : BusEffect). g.holder) (sym asks);
+      commits = commits ∙ sym (ap (λ (g : BusEffect). m.commits.entries ++ g.effect.commits) asks ∙ append-nil m.commits.entries);
+    }
 
-pub use-ask : {P : Type 0} (t : Litmus) (m : Hardware P) (bus : BusModel) (choice : Choice) (core : ℕ)
-    (access : MemoryAccess) (how : CacheUse)
-    → needs_in t m choice ≡ true
+pub use-ask : {P : Type 0} (t : Litmus) (m : Hardware P) (bus : BusModel) (choice : Choice) (core : ℕ) (how : CacheUse) (f : BusEffect)
+    → f ≡ asks (core_of (state_in m).flat (chosen choice)) choice Free
     → (state_in m).holder ≡ Free
     → core ≡ chosen choice
-    → access ≡ access_of t m.config.depth (state_in m).flat choice
-    → how ≡ (at_access (not_through Unused (caches_of m.bus)) (λ loc write. ask_by (caches_of m.bus) core loc.0 write) access).how
-    → caches_of bus ≡ (at_access (not_through Unused (caches_of m.bus)) (λ loc write. ask_by (caches_of m.bus) core loc.0 write) access).caches
-    → HasUsed (use_by t m choice (begins_in t m choice)) bus how
-use-ask t m bus choice core access how needs free is at told caches =
-    let asked : Used =
-    at_access (not_through Unused (caches_of m.bus))
-    (λ loc write. ask_by (caches_of m.bus) (chosen choice) loc.0 write)
-    (access_of t m.config.depth (state_in m).flat choice) in
-    let same : use_by t m choice (begins_in t m choice) ≡ asked =
-    ap (use_by t m choice) (begins-asks t m choice needs ∙ ap (asks (core_of (state_in m).flat (chosen choice)) choice) free)
+    → how
+    ≡ (at_access (not_through Unused (caches_of m.bus)) (λ loc write. ask_by (caches_of m.bus) core loc.0 write)
+    (access_of t m.config.depth (state_in m).flat choice)).how
+    → caches_of bus
+    ≡ (at_access (not_through Unused (caches_of m.bus)) (λ loc write. ask_by (caches_of m.bus) core loc.0 write)
+    (access_of t m.config.depth (state_in m).flat choice)).caches
+    → HasUsed (use_by t m choice f) bus how
+use-ask t m bus choice core how f asks free is told caches =
+    let what = access_of t m.config.depth (state_in m).flat choice in
+    let asked : ℕ → Used = λ k. at_access (not_through Unused (caches_of m.bus)) (λ loc write. ask_by (caches_of m.bus) k loc.0 write) what in
+    let same : use_by t m choice f ≡ asked (chosen choice) =
+    ap (use_by t m choice) asks
     ∙ ap (λ h.
-    used_between (is_awaited h) true (caches_of m.bus) (chosen choice)
-    (access_of t m.config.depth (state_in m).flat choice) (core_of (state_in m).flat (chosen choice)).pending [])
+    used_between (is_awaited h) true (caches_of m.bus) (chosen choice) what (core_of (state_in m).flat (chosen choice)).pending [])
     free in
     subst (λ u. HasUsed u bus how) (sym same) (record {
-      how_is = told ∙ rw (is, at) refl;
-      caches = caches ∙ rw (is, at) refl;
+      how_is = told ∙ ap (λ k. (asked k).how) is;
+      caches = caches ∙ ap (λ k. (asked k).caches) is;
     })
-
--- what the caches answered is what the definition asks them
-pub needs-is : {P : Type 0} (t : Litmus) (m : Hardware P) (choice : Choice) (core : ℕ) (access : MemoryAccess) (b : Bool) → core ≡ chosen choice
-    → access ≡ access_of t m.config.depth (state_in m).flat choice → b ≡ needs_bus access (hits_by (caches_of m.bus) core access) → needs_in t m choice ≡ b
-needs-is t m choice core access b i a h =
-    sym (h ∙ ap (λ k. needs_bus access (hits_by (caches_of m.bus) k access)) i ∙ ap (λ x. needs_bus x (hits_by (caches_of m.bus) (chosen choice) x)) a)
 
 -- what needs the bus needs it for its access
 pub needs-none : (a : MemoryAccess) (hits : Bool) → None ≡ needed_by a hits → needs_bus a hits ≡ false
@@ -202,14 +175,23 @@ needs-none (Writes loc) true h = refl
 needs-none (Writes loc) false h = absurd (let z : ⊥ = cc in z)
 needs-none (Locks loc) hits h = absurd (let z : ⊥ = cc in z)
 
+needs-bus : (a : MemoryAccess) (hits : Bool) → needed_by a hits ≢ None → needs_bus a hits ≡ true
+needs-bus NoAccess hits h = absurd (h refl)
+needs-bus (Reads loc) true h = absurd (h refl)
+needs-bus (Reads loc) false h = refl
+needs-bus (Writes loc) true h = absurd (h refl)
+needs-bus (Writes loc) false h = refl
+needs-bus (Locks loc) hits h = refl
+
+pub none-needed : {P : Type 0} (t : Litmus) (m : Hardware P) (choice : Choice) → needed_in t m choice ≡ None → needs_in t m choice ≡ false
+none-needed t m choice h = needs-none (access_of t m.config.depth (state_in m).flat choice) (attempt_in t m choice).hits (sym h)
+
+pub bus-needed : {P : Type 0} (t : Litmus) (m : Hardware P) (choice : Choice) → needed_in t m choice ≢ None → needs_in t m choice ≡ true
+bus-needed t m choice h = needs-bus (access_of t m.config.depth (state_in m).flat choice) (attempt_in t m choice).hits h
+
 module _ (loc : Loc) (write : Bool) where
-  pub needs-some : (a : MemoryAccess) (hits : Bool) → Some (loc, write) ≡ needed_by a hits → needs_bus a hits ≡ true
-  needs-some NoAccess hits h = absurd (let z : ⊥ = cc in z)
-  needs-some (Reads at) true h = absurd (let z : ⊥ = cc in z)
-  needs-some (Reads at) false h = refl
-  needs-some (Writes at) true h = absurd (let z : ⊥ = cc in z)
-  needs-some (Writes at) false h = refl
-  needs-some (Locks at) hits h = refl
+  pub some-needed : {P : Type 0} (t : Litmus) (m : Hardware P) (choice : Choice) → needed_in t m choice ≡ Some (loc, write) → needs_in t m choice ≡ true
+  some-needed t m choice h = bus-needed t m choice (λ q. let z : ⊥ = cc in z)
 
   pub needed-at : {A : Type 0} (none : A) (f : Loc → Bool → A) (a : MemoryAccess) (hits : Bool)
       → Some (loc, write) ≡ needed_by a hits
@@ -220,23 +202,6 @@ module _ (loc : Loc) (write : Bool) where
   needed-at none f (Writes at) true h = absurd (let z : ⊥ = cc in z)
   needed-at none f (Writes at) false h = let z : (at, true) ≡ (loc, write) = cc in ap (λ (x : Loc × Bool). f x.0 x.1) z
   needed-at none f (Locks at) hits h = let z : (at, true) ≡ (loc, write) = cc in ap (λ (x : Loc × Bool). f x.0 x.1) z
-
-  pub needed-among : (locations : ℕ) (a : MemoryAccess) (hits : Bool) → Some (loc, write) ≡ needed_by a hits → IsAccessAmong locations a → loc.0 < locations
-  needed-among locations NoAccess hits h among = absurd (let z : ⊥ = cc in z)
-  needed-among locations (Reads at) true h among = absurd (let z : ⊥ = cc in z)
-  needed-among locations (Reads at) false h among =
-      let both : (at, false) ≡ (loc, write) = cc in
-      let z : at ≡ loc = ap (λ (x : Loc × Bool). x.0) both in
-      subst (λ (l : Loc). l.0 < locations) z among
-  needed-among locations (Writes at) true h among = absurd (let z : ⊥ = cc in z)
-  needed-among locations (Writes at) false h among =
-      let both : (at, true) ≡ (loc, write) = cc in
-      let z : at ≡ loc = ap (λ (x : Loc × Bool). x.0) both in
-      subst (λ (l : Loc). l.0 < locations) z among
-  needed-among locations (Locks at) hits h among =
-      let both : (at, true) ≡ (loc, write) = cc in
-      let z : at ≡ loc = ap (λ (x : Loc × Bool). x.0) both in
-      subst (λ (l : Loc). l.0 < locations) z among
 
   pub needed-misses : (a : MemoryAccess) (hits : Bool) → Some (loc, write) ≡ needed_by a hits → write ≡ false → hits ≡ false
   needed-misses NoAccess hits h reads = absurd (let z : ⊥ = cc in z)
@@ -249,35 +214,59 @@ module _ (loc : Loc) (write : Bool) where
       let z : true ≡ false = ap (λ (x : Loc × Bool). x.1) both ∙ reads in
       absurd (let w : ⊥ = cc in w)
 
+-- what is asked for, by what needs it
+module _ (old new : BusModel) (core : Core) (loc : Loc) (write : Bool) (access : MemoryAccess) (hits : Bool)
+    (needed : Some (loc, write) ≡ needed_by access hits) where
+  pub ask-caches : (request : Option BusRequest) → AsksFor old new core loc write request → IsSameMachine old new
+      → caches_of new ≡ (at_access (not_through Unused (caches_of old)) (λ l w. ask_by (caches_of old) core.0 l.0 w) access).caches
+  ask-caches request done machine =
+      asked-caches old new core loc write request done machine
+      ∙ ap (λ (u : Used). u.caches)
+      (sym (needed-at loc write (not_through Unused (caches_of old)) (λ l w. ask_by (caches_of old) core.0 l.0 w) access hits needed))
+
+  pub ask-how : (request : Option BusRequest) → AsksFor old new core loc write request
+      → cache_use.Asked request ≡ (at_access (not_through Unused (caches_of old)) (λ l w. ask_by (caches_of old) core.0 l.0 w) access).how
+  ask-how request done =
+      asked-how old new core loc write request done
+      ∙ ap (λ (u : Used). u.how)
+      (sym (needed-at loc write (not_through Unused (caches_of old)) (λ l w. ask_by (caches_of old) core.0 l.0 w) access hits needed))
+
+  pub ask-holder : (request : Option BusRequest) → AsksFor old new core loc write request → holder_of new ≡ held_for core access
+  ask-holder request done =
+      done.holder_is ∙ sym (needed-at loc write None (λ l w. Some (bus.holder core l (bus.stage_for w))) access hits needed)
+
+pub ask-misses : (caches : Caches) (core at : ℕ) (loc : Loc) (write : Bool) (access : MemoryAccess)
+    → Some (loc, write) ≡ needed_by access (hits_by caches at access)
+    → core ≡ at
+    → write ≡ false
+    → would_hit caches core loc.0 false ≡ false
+ask-misses caches core at loc write access needed is reads =
+    let hits = hits_by caches at access in
+    ap (λ k. would_hit caches k loc.0 false) is
+    ∙ ap (λ w. would_hit caches at loc.0 w) (sym reads)
+    ∙ sym (needed-at loc write false (λ l w. would_hit caches at l.0 w) access hits needed)
+    ∙ needed-misses loc write access hits needed reads
+
 pub may-act : {P : Type 0} (t : Litmus) (m : Hardware P) (choice : Choice) → needs_in t m choice ≡ false
     → MayAct m.bus (chosen choice) (access_of t m.config.depth (state_in m).flat choice)
 may-act t m choice h = inr h
 
-pub fits-by : {P : Type 0} (t : Litmus) (m : Hardware P) (choice : Choice) (core : ℕ) (access : MemoryAccess)
-    → IsHeldForAccess t m
-    → core ≡ chosen choice
-    → access ≡ access_of t m.config.depth (state_in m).flat choice
-    → ((e : Entry) (loc : Loc)
-    → holder_of m.bus ≡ Some (bus.holder e.core e.loc Locked)
-    → access ≡ Writes loc
-    → hits_by (caches_of m.bus) core access ≡ true
-    → core ≢ e.core.0
-    → loc.0 ≢ e.loc.0)
-    → HitFits t m.config.depth (state_in m).flat (attempt_in t m choice) (state_in m).holder
-fits-by t m choice core access held i a taken =
-    answer-fits t m.config.depth (state_in m).flat (attempt_in t m choice) m.bus (state_in m).holder held
-    (λ e loc h w hit other. taken e loc h (a ∙ w)
-    (ap (λ k. hits_by (caches_of m.bus) k access) i ∙ ap (λ x. hits_by (caches_of m.bus) (chosen choice) x) a ∙ hit) (λ q. other (sym i ∙ q)))
-
-pub asks-taken : (s : CoreState) (choice : Choice) (next : Next) (holder : Holder)
-    → holder ≡ holder_by (Some next)
+pub asks-held : (s : CoreState) (choice : Choice) (holder : Holder)
+    → holder ≢ Free
     → asks s choice holder ≡ acts (stalled stall.Bus s) holder
-asks-taken s choice (Complete asked) holder h = rw h refl
-asks-taken s choice (Write e) holder h = rw h refl
+asks-held s choice Free h = absurd (h refl)
+asks-held s choice (HeldBy asked) h = refl
+asks-held s choice (HeldBetween e) h = refl
 
 -- who holds the machine's bus, by the caches' bus and what its holder goes on with
 abbrev pub held-with : Next → Option bus_action.BusAction → Holder
 held-with next h = holder_by (option_map (λ x. next) h)
+
+-- nobody holds the machine's bus: nor the caches'
+pub free-with : (next : Next) (h : Option bus_action.BusAction) → held-with next h ≡ Free → h ≡ None
+free-with next None free = refl
+free-with (Complete asked) (Some x) free = absurd (let z : ⊥ = cc in z)
+free-with (Write e) (Some x) free = absurd (let z : ⊥ = cc in z)
 
 -- an access that is made leaves it so
 pub held-made : (w : Way) (next : Next) (h : Option bus_action.BusAction) → held-with next (by_way w h None) ≡ by_way w (held-with next h) Free

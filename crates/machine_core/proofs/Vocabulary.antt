@@ -85,7 +85,7 @@ pub use Rattle.tso_laws.specs.Holders.{HolderFits, HasRead}
 pub use Rattle.multiprocessor.specs.declared.accesses.Next.{Next}
 pub use Rattle.multiprocessor.specs.declared.accesses.Next.TheVariants.{Complete, Write}
 pub use Rattle.machine_core.specs.Split.{use_by, completes_in}
-pub use Rattle.machine_core.specs.inner.Split.{IsOther, needed_by, IsAccessAmong, begins_in, split_effect_in, writes_last_in}
+pub use Rattle.machine_core.specs.inner.Split.{IsOther, needed_by, needed_in, IsAccessAmong, begins_in, split_effect_in, writes_last_in}
 pub use Rattle.machine_core.specs.OneChoice.{HasMade, IsUndone, AreConsistent}
 pub use Rattle.tso_terms.specs.Actions.{action_of}
 pub use Rattle.tso_terms.specs.declared.action.Action.TheVariants.{Store, Load, Lock}

@@ -21,8 +21,9 @@ ghost use Rattle.multiprocessor.specs.inner.OneCore.{SucceedsUnlessCommitting};
 ghost use Rattle.machine_core.specs.OneChoice.{AreConsistent, AreOfTest};
 ghost use Rattle.machine_core.specs.inner.OneChoice.{AreAtStart, AnswerFitsIn, effect_made_in, use_in, statistics_next};
 ghost use Rattle.machine_core.specs.OneChoice.{Makes, IsUndone, KeepsHardware};
+ghost use Rattle.machine_core.specs.inner.Split.{IsCourseOn};
 
-use crate::split::act_on_split;
+use crate::split::{Course, course_of, take_bus};
 use commit_order::Commits;
 use multiprocessor::accesses::{CacheUse, Next};
 use multiprocessor::counts::{Counts, tally};
@@ -32,6 +33,7 @@ use multiprocessor::{Config, PendingStores};
 use protocol_tables::Protocol;
 use snoop_bus::SnoopBus;
 use std::alloc::Global;
+use tso_laws::accesses_wait;
 use tso_terms::{Bus, Choice, Core, Instr, NoMemory, Outcome, Stall, Test};
 
 /// What a machine consists of: its cores, memory after their caches, what the action that holds the bus goes on with, what was
@@ -138,7 +140,9 @@ pub fn make_choice<P: Protocol>(
     Ok((outcome, cache_use))
 }
 
-/// Makes a choice on the kind of bus that there is. On the atomic bus every choice is whole.
+/// Makes a choice on the kind of bus that there is.
+// What the choice comes to is decided first, so that on either bus one that acts at once passes the same code, and a stall
+// lays down no answer but its own.
 #[inline(always)]
 fn act_on_bus<P: Protocol>(
     hardware: &mut Hardware<P>,
@@ -155,9 +159,29 @@ fn act_on_bus<P: Protocol>(
     ensures keeps { KeepsHardware hardware.old hardware.new }
     ensures of_test { AreOfTest test.now hardware.new }
 {
+    let course = course_on_bus(hardware, test, choice);
+    accesses_wait();
+    match course {
+        Course::ActsAtOnce => act(hardware, test, choice, Way::Whole),
+        Course::Stalls => Ok((Outcome::Stalled(Stall::Bus), CacheUse::Unused)),
+        Course::Completes | Course::WritesLast(_) | Course::Asks(..) => {
+            take_bus(hardware, test, choice, course)
+        }
+    }
+}
+
+/// What a choice comes to on the kind of bus that there is. On the atomic bus every choice acts at once.
+#[inline(always)]
+fn course_on_bus<P: Protocol>(hardware: &Hardware<P>, test: &Test, choice: Choice) -> Course
+    requires core { chosen choice < length test.now.programs }
+    requires consistent { AreConsistent hardware.now.config.bus test.now hardware.now }
+
+    ensures course { IsCourseOn hardware.now.config.bus test.now hardware.now choice result }
+    ensures answer { AnswerFitsIn test.now hardware.now choice }
+{
     match hardware.config.bus() {
-        Bus::Atomic => act(hardware, test, choice, Way::Whole),
-        Bus::Split => act_on_split(hardware, test, choice),
+        Bus::Atomic => Course::ActsAtOnce,
+        Bus::Split => course_of(hardware, test, choice),
     }
 }
 

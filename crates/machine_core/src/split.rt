@@ -14,64 +14,75 @@ ghost use Rattle.multiprocessor.specs.Caches.{caches_of, hits_by};
 ghost use Rattle.machine_core.specs.Keeping.{HardwareFitsTest, state_in};
 ghost use Rattle.multiprocessor.specs.inner.Keeping.{memory_access_in};
 ghost use Rattle.multiprocessor.specs.inner.OneCore.{SucceedsUnlessCommitting};
-ghost use Rattle.machine_core.specs.inner.Split.{split_effect_in, begins_in, needed_by, IsAccessAmong, IsOther};
+ghost use Rattle.machine_core.specs.inner.Split.{split_effect_in, needed_by, IsAccessAmong, IsOther, IsCourse, TakesBus};
 ghost use Rattle.machine_core.specs.OneChoice.{AreConsistent, AreOfTest, Makes, IsUndone, KeepsHardware};
 ghost use Rattle.machine_core.specs.inner.OneChoice.{AnswerFitsIn, LeavesLocked};
 
 use crate::completing::{complete, write_last};
-use crate::hardware::{Hardware, act, instruction_at, next_of};
+use crate::hardware::{Hardware, instruction_at, next_of};
 use multiprocessor::Processor;
 use multiprocessor::accesses::{CacheUse, MemoryAccess, Next};
-use multiprocessor::turn::{Way, core_of};
+use multiprocessor::turn::core_of;
 use protocol_tables::Protocol;
 use snoop_bus::SnoopBus;
-use tso_laws::accesses_wait;
-use tso_terms::{Action, Choice, Core, Instr, Loc, NoMemory, Outcome, Stall, Test};
+use tso_terms::{Action, Choice, Core, Entry, Instr, Loc, NoMemory, Outcome, Test};
 
-/// Makes a choice on a split bus, and answers its outcome and what it had to do with the caches.
-// The answer of the call is laid down here: on the atomic bus no choice makes room for it.
-#[inline(always)]
-pub fn act_on_split<P: Protocol>(
-    hardware: &mut Hardware<P>,
-    test: &Test,
-    choice: Choice,
-) -> Result<(Outcome, CacheUse), NoMemory>
-    requires core { chosen choice < length test.now.programs }
-    requires consistent { AreConsistent Bus.Split test.now hardware.old }
-
-    ensures makes { IfOk result (Makes split_effect_in test.now hardware.old hardware.new choice) }
-    ensures succeeds { SucceedsUnlessCommitting result (split_effect_in test.now hardware.old choice).effect }
-    ensures answer { AnswerFitsIn test.now hardware.old choice }
-    ensures err { OnErr result (IsUndone hardware.old hardware.new) }
-    ensures keeps { KeepsHardware hardware.old hardware.new }
-    ensures of_test { AreOfTest test.now hardware.new }
-{
-    go_on_or_begin(hardware, test, choice)
+/// What a choice comes to.
+pub enum Course {
+    /// It completes what it asked for.
+    Completes,
+    /// It writes: the locked instruction with this load part has read.
+    WritesLast(Entry),
+    /// It acts at once: its access hits, or it makes none.
+    ActsAtOnce,
+    /// It asks for the bus, for this location, and whether to write there.
+    Asks(Loc, bool),
+    /// It waits: another action holds the bus that it needs.
+    Stalls,
 }
 
-/// Makes the holder's next choice, or another one.
-// It stays a call of its own: a choice that held it too would be too large to be inlined on the atomic bus.
-fn go_on_or_begin<P: Protocol>(
+/// Makes a choice that holds the bus, or asks for it, and answers its outcome and what it had to do with the caches.
+// A part of its caller, so that its calls' answers are laid down only where one of them is made.
+#[inline(always)]
+pub fn take_bus<P: Protocol>(
     hardware: &mut Hardware<P>,
     test: &Test,
     choice: Choice,
+    course: Course,
 ) -> Result<(Outcome, CacheUse), NoMemory>
     requires core { chosen choice < length test.now.programs }
     requires consistent { AreConsistent Bus.Split test.now hardware.old }
+    requires course { IsCourse test.now hardware.old choice course }
+    requires takes { TakesBus course }
 
     ensures makes { IfOk result (Makes split_effect_in test.now hardware.old hardware.new choice) }
     ensures succeeds { SucceedsUnlessCommitting result (split_effect_in test.now hardware.old choice).effect }
-    ensures answer { AnswerFitsIn test.now hardware.old choice }
     ensures err { OnErr result (IsUndone hardware.old hardware.new) }
     ensures keeps { KeepsHardware hardware.old hardware.new }
     ensures of_test { AreOfTest test.now hardware.new }
 {
+    match course {
+        Course::Completes => complete(hardware, test, choice),
+        Course::WritesLast(read) => write_last(hardware, test, read),
+        Course::Asks(loc, write) => ask(hardware, test, choice, loc, write),
+        Course::ActsAtOnce | Course::Stalls => unreachable!(),
+    }
+}
+
+/// What a choice comes to on a split bus: the holder's next one goes on, another one begins.
+pub fn course_of<P: Protocol>(hardware: &Hardware<P>, test: &Test, choice: Choice) -> Course
+    requires core { chosen choice < length test.now.programs }
+    requires consistent { AreConsistent Bus.Split test.now hardware.now }
+
+    ensures course { IsCourse test.now hardware.now choice result }
+    ensures answer { AnswerFitsIn test.now hardware.now choice }
+{
     match next_of(hardware) {
-        Some(Next::Complete(asked)) if is_same(asked, choice) => complete(hardware, test, choice),
+        Some(Next::Complete(asked)) if is_same(asked, choice) => Course::Completes,
         Some(Next::Write(read)) if is_same(Choice::Step(read.core), choice) => {
-            write_last(hardware, test, read)
+            Course::WritesLast(read)
         }
-        Some(_) | None => begin(hardware, test, choice),
+        Some(_) | None => course_of_other(hardware, test, choice),
     }
 }
 
@@ -81,38 +92,48 @@ fn is_same(a: Choice, b: Choice) -> bool
     a == b
 }
 
-/// Makes a choice that isn't the holder's next one.
+/// What a choice comes to that isn't the holder's next one.
 #[inline(always)]
-fn begin<P: Protocol>(
+fn course_of_other<P: Protocol>(hardware: &Hardware<P>, test: &Test, choice: Choice) -> Course
+    requires core { chosen choice < length test.now.programs }
+    requires consistent { AreConsistent Bus.Split test.now hardware.now }
+    requires other { IsOther (state_in hardware.now).holder choice }
+
+    ensures course { IsCourse test.now hardware.now choice result }
+    ensures answer { AnswerFitsIn test.now hardware.now choice }
+{
+    let access = access_of(hardware, test, choice);
+    match needed(&hardware.bus, core_of(choice), access) {
+        None => Course::ActsAtOnce,
+        Some((loc, write)) => match next_of(hardware) {
+            None => Course::Asks(loc, write),
+            Some(_) => Course::Stalls,
+        },
+    }
+}
+
+/// Asks for the bus for a choice that needs it for this location.
+fn ask<P: Protocol>(
     hardware: &mut Hardware<P>,
     test: &Test,
     choice: Choice,
+    loc: Loc,
+    write: bool,
 ) -> Result<(Outcome, CacheUse), NoMemory>
     requires core { chosen choice < length test.now.programs }
     requires consistent { AreConsistent Bus.Split test.now hardware.old }
-    requires other { IsOther (state_in hardware.old).holder choice }
+    requires course { IsCourse test.now hardware.old choice (Course.Asks loc write) }
 
-    ensures makes { IfOk result (Makes begins_in test.now hardware.old hardware.new choice) }
-    ensures succeeds { SucceedsUnlessCommitting result (begins_in test.now hardware.old choice).effect }
-    ensures answer { AnswerFitsIn test.now hardware.old choice }
+    ensures makes { IfOk result (Makes split_effect_in test.now hardware.old hardware.new choice) }
+    ensures succeeds { SucceedsUnlessCommitting result (split_effect_in test.now hardware.old choice).effect }
     ensures err { OnErr result (IsUndone hardware.old hardware.new) }
     ensures keeps { KeepsHardware hardware.old hardware.new }
     ensures of_test { AreOfTest test.now hardware.new }
 {
-    accesses_wait();
     let core = core_of(choice);
-    let access = access_of(hardware, test, choice);
-    match needed(&hardware.bus, core, access) {
-        None => act(hardware, test, choice, Way::Whole),
-        Some((loc, write)) => match next_of(hardware) {
-            None => {
-                let request = hardware.bus.ask(core, loc, write);
-                hardware.next = Next::Complete(choice);
-                Ok((Outcome::Asked, CacheUse::Asked(request)))
-            }
-            Some(_) => Ok((Outcome::Stalled(Stall::Bus), CacheUse::Unused)),
-        },
-    }
+    let request = hardware.bus.ask(core, loc, write);
+    hardware.next = Next::Complete(choice);
+    Ok((Outcome::Asked, CacheUse::Asked(request)))
 }
 
 /// For what a core's access needs the bus, a location and whether it writes there: a read or a write that doesn't
