@@ -26,7 +26,7 @@ function currentAddress(choices = choicesOfAddress()) {
   const pairs = [['test', byId('test').value], ['choices', choices], ['order', byId('given').value], ['command', command]];
   const told = pairs.filter(([name, value]) => name === 'test' || (name === 'command' ? value !== 'run' : value !== ''));
   const embedded = document.documentElement.classList.contains('embedded') ? [['embed', '1']] : [];
-  return new URLSearchParams([...told, ...changedSettings(), ...driven(), ...exerciseToKeep(), ...embedded]).toString();
+  return new URLSearchParams([...told, ...changedSettings().filter(([name]) => command !== 'why' || [...SETTINGS.run, ...SETTINGS.why].includes(name)), ...driven(), ...exerciseToKeep(), ...embedded]).toString();
 }
 
 /** Of a machine that is driven how many of the choices are made, where not all are, what is beside it, whether somebody wants the caches
@@ -105,8 +105,6 @@ async function copyWords() {
 
 function drawShare() {
   const address = currentAddress(), isShort = address.length <= LONGEST_ADDRESS;
-  byId('share').hidden = !isShort;
-  byId('share').href = '#' + address;
   byId('too-long').hidden = isShort;
   byId('copy-link').disabled = !isShort;
   const sentence = `The address of what is shown would have ${address.length} characters, and at most ${LONGEST_ADDRESS} are possible. So a reload doesn't keep what is shown.`;
@@ -123,9 +121,9 @@ function openTest(fragment) {
   if (told.has('choices')) putChoices(told.get('choices'));
   if (told.has('order')) byId('given').value = told.get('order');
   putSettings(told);
+  cachesView.wanted = told.has('caches') ? told.get('caches') === '1' : null;
   putCommand(told.get('command'));
   putDrive({ beside: besideNamed(told.get('beside')) });
-  cachesView.wanted = told.has('caches') ? told.get('caches') === '1' : null;
   forgetOwnRun();
   const at = /^\d{1,4}$/.test(told.get('at') ?? '') ? Number(told.get('at')) : null;
   if (currentCommand() !== 'run') takeRunBehind(at);

@@ -5,10 +5,10 @@
 /**
  * The module and what it was made of, a long task while it runs, and the answer that is shown with its command; null while a machine
  * is driven on from it. `tracing` is what the module tells of steps: `step` alone and the whole trace, the whole `trace`, or null.
- * `hasLargerSet` is whether it has the larger set of instructions. `took` is how many milliseconds the last answer to `why` took, and `again` is the
+ * `hasLargerSet` is whether it has the larger set of instructions. `told` is what the shown sheet was asked. `took` is how many milliseconds the last answer to `why` took, and `again` is the
  * timer of one that comes by itself.
  */
-const bench = { tso: null, bytes: null, task: null, answer: null, tracing: null, hasLargerSet: false, took: Infinity, again: null };
+const bench = { tso: null, bytes: null, task: null, answer: null, tracing: null, hasLargerSet: false, told: null, took: Infinity, again: null };
 
 const LONG = ['outcomes', 'sweep', 'counts', 'why'];
 
@@ -101,6 +101,7 @@ function showAsked(command) {
   drawShare();
   keepAddressSoon();
   showTestLine(command);
+  document.title = `${testName()} – Litmus tests under TSO`;
   showWordsLine(command);
   forgetNotices(command);
   showLeft();
@@ -153,13 +154,14 @@ function showReport() {
 
 /** Shows an answer: what was refused is marked, and a run that was shown before isn't any more. */
 function showAnswer(answer) {
-  bench.answer = answer;
+  Object.assign(bench, { answer, told: null });
   const isText = answer.status !== Tso.STATUS.refused && answer.text !== '';
   hideRun();
   byId('brief').hidden = true;
   byId('states').replaceChildren();
   showWayBack();
   markRefusal(answer);
+  showLeft();
   const noted = answer.status === Tso.STATUS.refused || currentCommand() === 'tables' ? '' : noticeOf(inputOf('sweep'));
   for (const place of document.querySelectorAll('.noticed')) putText(place, noted);
   if (answer.status === Tso.STATUS.refused) byId('test-part').open = true;
@@ -234,6 +236,7 @@ function foldReport(answer) {
 /** Offers the way back to the run, while an answer is shown in its place. */
 function showWayBack() {
   byId('way-back').hidden = currentCommand() === 'run';
+  for (const button of byId('way-back').querySelectorAll('[data-ask]')) button.hidden = button.dataset.ask === currentCommand();
 }
 
 /** Shows the run again, as it was before the answer, with the machine in sight. */
@@ -291,7 +294,7 @@ function loadChoices(choices, found) {
   putCommand('run');
   ownRun.taken = choices.trim();
   const isOther = String(before) !== String(depth);
-  showOwnRun(`This is a run of the answer${isOther ? `, with store buffers of depth ${depth} (yours have depth ${before})` : ''}.`);
+  showOwnRun(`This is a run of the answer${isOther ? `, with ${plainMachineName({ depth: Number(depth) })} (yours have ${before})` : ''}.`);
   const sheet = [...byId('states').children]; // it stays beside the run
   answerNow();
   byId('states').replaceChildren(...sheet);

@@ -42,25 +42,40 @@ function drawBesideChoices(options) {
 function putBeside(text) {
   putDrive({ beside: JSON.parse(text) });
   beginDrive(firstHistory(), drive, drive.count);
+  if (drive.beside === ABREAST) scrollBy(0, byId('programs').getBoundingClientRect().top - (isStepperBelow() ? 0 : byId('stepper').offsetHeight));
 }
 
-/** Programs in one line; of each the instruction at a place of `places` is marked. */
-const programLines = (programs, places = []) => programs.map((program, core) => html('span', {}, html('strong', {}, `P${core}`), ' ',
-  ...program.map((text, at) => html('code', at === places[core] ? { class: 'next' } : {}, text))));
+/** Programs in one line; of each what `marks` says of an instruction's place is its class, and what `after` gives stands behind it. */
+const programLines = (programs, marks = () => '', after = () => []) => programs.map((program, core) => html('span', {}, html('strong', {}, `P${core}`), ' ',
+  ...program.map((text, at) => html('code', { class: marks(core, at) }, text)), ...after(core)));
 
-/** Where machines stand abreast: the programs, once for all of them, each with its next instruction marked. */
+/** Where machines stand abreast: the programs and registers, once for all of them, with each next instruction and the last one marked. */
 function showPrograms() {
-  const { programs } = firstHistory(), { cores } = firstHistory().machineAfter(drive.count), isAbreast = drive.histories.length > 2;
+  const history = firstHistory(), { count } = drive, isAbreast = drive.histories.length > 2;
   byId('programs').hidden = !isAbreast;
   if (!isAbreast) return;
-  byId('programs').replaceChildren(...programLines(programs, cores.map(({ place }) => place)));
+  const [now, old] = [count, Math.max(0, count - 1)].map(each => history.machineAfter(each).cores.map(({ place }) => place));
+  const marks = (core, at) => (at === now[core] ? 'next' : at === old[core] ? 'changed' : '');
+  const { panels } = drawn.panels[0], registers = core => (panels[core].used.length === 0 ? [] : [panels[core].registers.element.cloneNode(true)]);
+  byId('programs').replaceChildren(...programLines(history.programs, marks, registers));
 }
+
+/** Of a machine that did the same as the first in each step so far: that it did. */
+function asFirst({ steps }, count) {
+  const { steps: first, options } = firstHistory(), toldOf = all => JSON.stringify(all.slice(0, count));
+  return count > 0 && steps !== first && toldOf(steps) === toldOf(first) ? `, as ${options.protocol.toUpperCase()} so far` : '';
+}
+
+/** What a machine did that the first didn't, or else the other way round. */
+const saidOtherwise = ({ sentences: own }, { sentences: first }) => own.filter(each => !first.includes(each)).join(' ') ||
+  first.filter(each => !own.includes(each)).map(each => `Not here: ${each}`).join(' ');
 
 /** Marks of each machine the lines of its caches, and its sentence, where they differ from those of the first. */
 function markDifferences() {
   const [first, ...others] = drawn.panels;
   for (const panel of others) {
-    for (const [own, other] of [[panel.said, first.said], [panel.bus.element, first.bus.element], [panel.tally, first.tally], [panel.memory.element, first.memory.element]]) {
+    if (others.length > 1) putText(panel.said, saidOtherwise(panel, first));
+    for (const [own, other] of [[panel.said, others.length > 1 ? { textContent: '' } : first.said], [panel.bus.element, first.bus.element], [panel.tally, first.tally], [panel.memory.element, first.memory.element]]) {
       own.classList.toggle('differs', own.textContent !== other.textContent);
     }
     panel.panels.forEach((core, at) => markRows(core.lines.element, first.panels[at].lines.element));

@@ -30,6 +30,7 @@ function putCaches() {
 function wantCaches(isWanted) {
   cachesView.wanted = isWanted;
   if (drive.isOn) showDrive();
+  showSettings(currentCommand());
   showTestLine(currentCommand());
 }
 
@@ -37,7 +38,9 @@ function wantCaches(isWanted) {
 const plainSupply = supply => (supply === null || supply.from === 'buffer' ? supply : { ...supply, from: 'memory', owner: null });
 
 /** A machine in words for readers, which a lesson brings one by one; `machineName` is for addresses. */
-const machineTitle = options => `${lesson.told === null ? `${options.protocol.toUpperCase()}, ${options.bus} bus` : 'Caches'}, ${plainMachineName(options)}`;
+const machineTitle = options => `${lesson.told === null ? `${options.protocol.toUpperCase()}, ${options.bus} bus` : 'Caches'}, ${plainMachineName(options)}${wordsSaid(options)}`;
+
+const wordsSaid = ({ words }) => (valueOf('words') === 1 ? '' : `, ${words} ${words === 1 ? 'word' : 'words'} a line`);
 
 /** A machine in words that speak of store buffers alone. */
 const plainMachineName = ({ depth }) => (depth === 0 ? 'no store buffers' : `store buffers of ${depth} ${depth === 1 ? 'store' : 'stores'}`);

@@ -5,18 +5,19 @@
 const OTHER_DEPTHS = [0, 1, 2, 4, 32];
 const SUMMED = COUNTS.filter(name => name !== 'forwards');
 
-/** The machines that differ from this one in one setting: each protocol, each bus, and some depths; this one first. */
+/** The machines that differ from this one in one setting: one word a line, each protocol, each bus, and some depths; this one first. */
 function otherMachines(options) {
   const others = [
+    { ...options, words: 1 },
     ...Tso.PROTOCOLS.map(protocol => ({ ...options, protocol })),
     ...Tso.BUSES.map(bus => ({ ...options, bus })),
     ...OTHER_DEPTHS.map(depth => ({ ...options, depth })),
   ];
-  const isOther = ({ protocol, bus, depth }) => protocol !== options.protocol || bus !== options.bus || depth !== options.depth;
+  const isOther = machine => ['protocol', 'bus', 'depth', 'words'].some(name => machine[name] !== options[name]);
   return [options, ...others.filter(isOther)];
 }
 
-const machineName = ({ protocol, bus, depth }) => `${protocol.toUpperCase()}, ${bus} bus, depth ${depth}`;
+const machineName = ({ protocol, bus, depth, words }) => (words < valueOf('words') ? 'one word a line' : `${protocol.toUpperCase()}, ${bus} bus, depth ${depth}`);
 
 /** What a run on a machine came to, as the cells of a row; where it didn't end, how far it came. */
 function comparedCells(options, input, first) {
@@ -53,6 +54,6 @@ function compareNow() {
 
 function takeMachine(text) {
   const machine = JSON.parse(text);
-  for (const name of ['protocol', 'bus', 'depth']) settingOf(name).value = machine[name];
+  for (const name of ['protocol', 'bus', 'depth', 'words']) settingOf(name).value = machine[name];
   keepPosition(answerNow);
 }

@@ -12,11 +12,11 @@ const eventsOf = edges => [...new Map(edges.flatMap(({ from, to }) => [from, to]
 const nameOfEvent = text => text.split(' ').slice(0, 2).join(' ');
 
 /** The heights at which rows begin: an instruction, under it its events, and under these the channels of the ways that go past cores. */
-function topsOfRows(rows, boxesOf, channels, codes) {
+function topsOfRows(rows, highOf, channels, codes) {
   const tops = [EVENTS.head];
   for (let row = 0; row < rows; row++) {
-    const boxes = boxesOf(row), under = channels[row] * ROUTES.channel;
-    tops.push(tops[row] + codes[row] + (boxes === 0 ? EVENTS.thin : boxes * (EVENTS.box + EVENTS.gap) + 12 + under));
+    const high = highOf(row), under = channels[row] * ROUTES.channel;
+    tops.push(tops[row] + codes[row] + (high === 0 ? EVENTS.thin : high + 12 + under));
   }
   return tops;
 }
@@ -34,7 +34,7 @@ const codesOf = (programs, rows, isNarrow) => Array.from({ length: rows }, (_, r
 /** The room beside the boxes of a lane, and beside the outer lanes (`margin`): the letters of the longest name of a relation have to go there;
  * of narrow lanes, between two of them. */
 function sidesFor(edges, isNarrow, added) {
-  const longest = ROUTES.letter * Math.max(0, ...edges.map(({ relation }) => letterOf(relation, isNarrow).length)) + ROUTES.around + 4;
+  const longest = ROUTES.letter * Math.max(0, ...edges.map((_, at) => lettersAt(edges, at, isNarrow).length)) + ROUTES.around + 4;
   if (!isNarrow) return { side: Math.max(EVENTS.side, longest + ROUTES.around), margin: 0 };
   const side = Math.max(NARROW.side, Math.ceil(longest / 2)) + added;
   return { side, margin: Math.max(0, longest - side) };
@@ -54,11 +54,12 @@ function layOutEvents(programs, edges, isNarrow, added = 0) {
   const { side, margin } = sidesFor(edges, isNarrow, added);
   const lane = (isNarrow ? NARROW.least : Math.max(EVENTS.least, widest * EVENTS.letter + 12)) + 2 * side, codes = codesOf(programs, rows, isNarrow);
   const isSecond = event => event.kind === 'LW' && events.some(other => other.kind === 'LR' && other.core === event.core && other.place === event.place);
-  const there = row => events.filter(({ place }) => place === row);
-  const tops = topsOfRows(rows, row => (there(row).some(isSecond) ? 2 : there(row).length > 0 ? 1 : 0), channels, codes);
+  const heightOf = heightsOfBoxes(edges), own = ({ core, place }) => events.filter(each => each.core === core && each.place === place);
+  const high = found => found.reduce((sum, event) => sum + heightOf(event) + EVENTS.gap, 0);
+  const tops = topsOfRows(rows, row => Math.max(0, ...programs.map((_, core) => high(own({ core, place: row })))), channels, codes);
   const boxOf = event => ({
-    x: margin + event.core * lane + side, width: lane - 2 * side, height: EVENTS.box,
-    y: tops[event.place] + codes[event.place] + (isSecond(event) ? EVENTS.box + EVENTS.gap : 0),
+    x: margin + event.core * lane + side, width: lane - 2 * side, height: heightOf(event),
+    y: tops[event.place] + codes[event.place] + (isSecond(event) ? high(own(event).filter(({ kind }) => kind === 'LR')) : 0),
   });
   const placed = { cores: programs.length, isNarrow, margin, lane, side, tops, codes, far, channels, width: programs.length * lane + 2 * margin + 2, height: tops.at(-1) + 8 };
   return { ...placed, words: wordsOfPrograms(programs, placed), boxes: new Map(events.map(event => [nameOfEvent(event.text), { event, ...boxOf(event) }])) };
@@ -69,8 +70,8 @@ const drawWay = (way, edge, at) => svg('g', { class: `edge edge-${edge.relation}
   svg('title', {}, edgeSentence(edge)), svg('path', { d: way.d, 'marker-end': `url(#point-${edge.relation})` }));
 
 /** The letters of an edge, which stand over all else. */
-const drawLetters = (chip, edge, at, isNarrow) => svg('g', { class: `edge edge-${edge.relation}`, 'data-letters': at }, svg('title', {}, edgeSentence(edge)),
-  svg('rect', { class: 'chip', ...chip, rx: 4 }), textAt({ x: chip.x + chip.width / 2, y: chip.y + 13 }, 12, letterOf(edge.relation, isNarrow)));
+const drawLetters = (chip, edges, at, isNarrow) => svg('g', { class: `edge edge-${edges[at].relation}`, 'data-letters': at }, svg('title', {}, edgeSentence(edges[at])),
+  svg('rect', { class: 'chip', ...chip, rx: 4 }), textAt({ x: chip.x + chip.width / 2, y: chip.y + 13 }, 12, lettersAt(edges, at, isNarrow)));
 
 /** The point of an arrow in its relation's colour. */
 const drawPoint = relation => svg('marker', { id: `point-${relation}`, viewBox: '0 0 8 8', refX: 7, refY: 4, markerWidth: 9, markerHeight: 9, markerUnits: 'userSpaceOnUse', orient: 'auto' },
@@ -87,12 +88,13 @@ function drawLane(layout, program, at, core) {
 function drawEvent({ event, ...box }) {
   const isStore = event.kind === 'W' || event.kind === 'LW';
   return svg('g', { class: isStore ? 'store' : 'load', 'data-event': nameOfEvent(event.text) }, svg('rect', { ...box, rx: isStore ? 2 : EVENTS.box / 2 }),
-    fittingText({ x: box.x + box.width / 2, y: box.y + 18 }, 14, event.text.slice(event.text.indexOf(' ') + 1), box.width - 8));
+    fittingText({ x: box.x + box.width / 2, y: box.y + box.height / 2 + 5 }, 14, event.text.slice(event.text.indexOf(' ') + 1), box.width - 8));
 }
 
 const AROUND = 48; // pixels of a window that no picture has
 const MANY_CORES = 4; // with more than these, cores without an edge are left out
 const isTooWide = figure => Number(figure.dataset.least) > innerWidth - AROUND;
+const isTooHigh = figure => Number(figure.dataset.high) > innerHeight - AROUND;
 const MANY_EDGES = 20; // with more than these, an execution is drawn with the edges at what its condition names
 
 /** The cores that are drawn: all of a few, and of many those that have an event, unless all are wanted. */
@@ -101,35 +103,28 @@ function drawnCores(programs, edges, isAll) {
   return isAll || programs.length <= MANY_CORES ? cores : cores.filter(core => used.has(core));
 }
 
-/** The cores that aren't drawn at first, in words, and that they have no arrow. */
-function leftOutSaid(programs, edges) {
-  const drawn = drawnCores(programs, edges, false), left = programs.map((_, core) => core).filter(core => !drawn.includes(core)).map(core => `P${core}`);
-  return `${listed(left)} ${left.length === 1 ? 'has' : 'have'} no arrow`;
-}
-
 /** An event's text with its lane in the place of its core. */
 const inLane = (cores, text) => text.replace(/^P(\d)/, (_, core) => `P${cores.indexOf(Number(core))}`);
 
-/** A layout with the ways of edges and their chips, and whether these cover nothing. */
+/** A layout with the ways of edges and their chips, and how much these cover. */
 function drawingOf(layout, edges) {
-  const ways = edgeWays(layout, edges), { chips, isClear } = chipsOf(layout, edges, ways);
-  return { layout, ways, chips, isClear };
+  const ways = edgeWays(layout, edges);
+  return { layout, ways, ...chipsOf(layout, edges, ways) };
 }
 
-/** The narrowest lanes in which all is clear; where it is so in none, the narrowest of all. */
-function narrowDrawing(programs, edges, added = 0) {
-  const drawing = drawingOf(layOutEvents(programs, edges, true, added), edges);
-  if (drawing.isClear || added === NARROW.most) return drawing;
-  const wider = narrowDrawing(programs, edges, added + NARROW.step);
-  return wider.isClear ? wider : drawing;
+/** The lanes in which chips cover least, and of such the narrowest: up to what is too wide for the window, if in any all is clear. */
+function narrowDrawing(programs, edges, best = null, added = 0) {
+  const drawing = drawingOf(layOutEvents(programs, edges, true, added), edges), isWide = NARROW.smaller * drawing.layout.width > innerWidth - AROUND;
+  const better = best === null || (drawing.cost < best.cost && (drawing.cost === 0 || !isWide)) ? drawing : best;
+  return better.cost === 0 || added === NARROW.most ? better : narrowDrawing(programs, edges, better, added + NARROW.step);
 }
 
-const GROWN = { most: 1.8, width: 0.48, height: 0.6 };
+const GROWN = { most: 1.8, width: 0.48, height: 0.6, taught: 0.3 };
 
 /** By how much a picture is larger where the window has room for it, in parts of its measures. */
 function grownBy({ width, height }) {
-  const room = Math.min(GROWN.most, GROWN.width * innerWidth / width, GROWN.height * innerHeight / height);
-  return lesson.told === null ? Math.max(1, room) : 1;
+  const room = Math.min(GROWN.most, GROWN.width * innerWidth / width, (lesson.told === null ? GROWN.height : GROWN.taught) * innerHeight / height);
+  return Math.max(1, room);
 }
 
 /** Edges over programs, as a figure of this name. Where there is less room the picture is made smaller, and at last scrolled. */
@@ -141,10 +136,10 @@ function drawEdges(programs, edges, name, isAll = false) {
   const picture = svg('svg', { class: 'picture', viewBox: `0 0 ${layout.width} ${layout.height}`, role: 'img', 'aria-label': `${name}. The text beside it says the same.` },
     svg('defs', {}, ...used.map(drawPoint)), ...edges.map((edge, at) => drawWay(ways[at], edge, at)),
     ...shown.map((program, lane) => drawLane(layout, program, lane, cores[lane])), ...[...layout.boxes.values()].map(drawEvent),
-    ...edges.map((edge, at) => drawLetters(chips[at], edge, at, isNarrow)));
+    ...edges.map((_, at) => drawLetters(chips[at], edges, at, isNarrow)));
   const least = (isNarrow ? NARROW : EVENTS).smaller * layout.width;
   picture.style.width = `max(100%, ${least}px)`;
-  const figure = html('figure', { tabindex: 0, 'aria-label': name, class: isNarrow ? 'narrow' : '', 'data-least': least }, picture);
+  const figure = html('figure', { tabindex: 0, 'aria-label': name, class: isNarrow ? 'narrow' : '', 'data-least': least, 'data-high': layout.height * Math.min(1, Math.max(least, innerWidth - AROUND) / layout.width) }, picture);
   figure.style.flex = `0 1 ${grownBy(layout) * layout.width}px`; // in a lecture it takes the whole width
   return figure;
 }
@@ -168,71 +163,66 @@ function askedEdges(programs, edges, places, coherence) {
   return found.length > 0 ? found : edges;
 }
 
-/** An execution as `panelOf` draws it: at first without what doesn't matter, with boxes that show all and fit the width. */
+/** A cycle or an execution as `panelOf` draws it: at first without what doesn't matter, with boxes that show all and fit the screen. */
 function drawExecution(programs, edges, few, panelOf) {
   const isWhole = drawnCores(programs, few, false).length === programs.length, fit = html('input', { type: 'checkbox' });
   const draw = isAll => {
-    const { picture, element } = panelOf(isAll ? edges : few, isAll);
-    if (fit.checked) picture.firstChild.style.width = '100%';
-    return element;
+    sheet.cycle = panelOf(isAll ? edges : few, isAll);
+    sheet.cycle.picture.classList.toggle('fits', fit.checked);
+    return sheet.cycle.element;
   };
-  const isWide = isTooWide(drawEdges(programs, edges, '', true));
-  if (few.length === edges.length && isWhole && !isWide) return draw(true);
-  const fewer = few.length < edges.length ? [`Drawn are ${few.length} of ${edges.length} arrows, those at what is asked for.`] : [];
-  const left = [...fewer, ...(isWhole ? [] : [`${leftOutSaid(programs, few)}${fewer.length > 0 ? ' of these' : ''}: left out.`])];
+  const drawn = drawEdges(programs, edges, '', true), isLarge = isTooWide(drawn) || isTooHigh(drawn);
+  if (few.length === edges.length && isWhole && !isLarge) return draw(true);
+  const left = few.length < edges.length ? `Drawn are ${few.length} of ${edges.length} arrows, those at what is asked for.` : isWhole ? '' : 'Cores without an arrow are left out.';
   const box = html('input', { type: 'checkbox' }), place = html('div', {}, draw(false));
-  const said = html('span', {}, left.join(' ')), label = (input, text) => html('label', {}, input, text);
-  const all = left.length > 0 ? [said, label(box, ' Draw all')] : [], fits = isWide ? [label(fit, ' Fit the width')] : [];
+  const said = html('span', {}, left), label = (input, text) => html('label', {}, input, text);
+  const all = left !== '' ? [said, label(box, ' Draw all')] : [], fits = isLarge ? [label(fit, ' Fit the screen')] : [];
   const words = html('p', { class: 'buttons small' }, ...all, ...fits);
   words.addEventListener('change', () => {
+    const { shown } = sheet.cycle;
     place.replaceChildren(draw(box.checked));
-    putText(said, box.checked ? `Drawn are all ${edges.length} arrows.` : left.join(' '));
+    sheet.cycle.show(shown);
+    putText(said, box.checked ? `Drawn are all ${edges.length} arrows.` : left);
   });
   return html('div', { class: 'drawn-part' }, words, place);
 }
 
-/** A cycle, drawn and told edge by edge; or an execution, whose cycle comes first, and what is left as one step. */
+/** A cycle, drawn and told edge by edge; or an execution: its cycle, then each other edge alone, and at last all. */
 class CyclePanel {
-  /** `end`: what all comes to; `stops`: how many edges each step shows; `isAll`: whether all cores are drawn, null where a box says it. */
-  constructor(programs, cycle, { end, name = `A cycle of ${cycle.length} edges`, stops = cycle.map((_, at) => at + 1), isAll = null }) {
-    Object.assign(this, { programs, cycle, name, stops, arrow: isAll === null ? '' : 'without store buffers, ' });
-    this.place = html('div', { class: 'pictured-cycle' });
-    this.draw(isAll === true);
-    this.isNarrow = this.picture.matches('.narrow');
+  /** `end`: what the cycle comes to; `closed`: how many edges are the cycle; `isAll`: whether all cores are drawn; `arrow`: when arrows hold. */
+  constructor(programs, cycle, { end, name = `A cycle of ${cycle.length} edges`, closed = cycle.length, isAll, arrow = '' }) {
+    const picture = drawEdges(programs, cycle, name, isAll), isNarrow = picture.matches('.narrow');
+    Object.assign(this, { cycle, closed, picture, isNarrow });
+    const place = html('div', { class: 'pictured-cycle' }, picture, relationList(cycle, isNarrow, arrow));
+    place.style.flex = picture.style.flex;
     this.sentences = html('ol', { class: 'edges', 'aria-label': 'The edges, one after the other' },
-      ...cycle.map(edge => html('li', {}, chipOf(edge.relation, this.isNarrow), ` ${edgeSentence(edge)}`)));
+      ...cycle.map((edge, at) => html('li', { tabindex: 0, 'data-arrow': at }, chipOf(edge.relation, isNarrow), ` ${edgeSentence(edge)}`)));
     this.end = html('p', {}, end);
     this.count = html('span', {});
     this.said = html('p', { class: 'edge-said', role: 'status' });
     this.buttons = Object.entries({ first: 'First arrow', back: 'Arrow back', next: 'Next arrow', all: 'All arrows' })
       .map(([name, text]) => html('button', { type: 'button', 'data-edges': name }, text));
-    const tools = html('div', { class: 'buttons' }, ...this.buttons, this.count, ...(isAll === null ? this.allCores() : []));
-    this.element = html('div', { class: 'cycle' }, ...(stops.length > 1 ? [tools, this.said] : []),
-      html('div', { class: 'beside' }, this.place, html('div', { class: 'told-edges' }, this.sentences, this.end)));
+    this.bar = html('div', { class: 'stepping' }, html('div', { class: 'buttons' }, ...this.buttons, this.count), this.said);
+    this.told = html('div', { class: 'told-edges' }, this.sentences, this.end);
+    this.element = html('div', { class: 'cycle' }, ...(cycle.length > 1 ? [this.bar] : []), html('div', { class: 'beside' }, place, this.told));
+    new ResizeObserver(() => this.seeHeight()).observe(picture);
+    for (const kind of ['pointerover', 'focusin']) this.element.addEventListener(kind, ({ target }) => this.point(target));
+    this.element.addEventListener('pointerleave', () => this.point(document.activeElement));
     this.show(1);
   }
 
   /** How many steps there are. */
   get last() {
-    return this.stops.length;
+    const { length } = this.cycle;
+    return length > 1 && this.closed < length ? length + 1 : length;
   }
 
-  draw(isAll) {
-    this.picture = drawEdges(this.programs, this.cycle, this.name, isAll);
-    this.place.replaceChildren(this.picture, relationList(this.cycle, this.picture.matches('.narrow'), this.arrow));
-    this.place.style.flex = this.picture.style.flex;
-  }
-
-  /** Where cores are left out, a box that shows all of them. */
-  allCores() {
-    const cores = drawnCores(this.programs, this.cycle, false).length;
-    if (cores === this.programs.length) return [];
-    const box = html('input', { type: 'checkbox' });
-    box.addEventListener('change', () => {
-      this.draw(box.checked);
-      this.show(this.shown);
-    });
-    return [html('label', { class: 'small' }, box, ` All ${this.programs.length} cores (${leftOutSaid(this.programs, this.cycle)})`)];
+  /** Marks an arrow and its sentence, while one of them has the pointer or the focus. */
+  point(target) {
+    const { edge, letters, arrow } = target.closest('[data-edge], [data-letters], [data-arrow]')?.dataset ?? {}, at = edge ?? letters ?? arrow;
+    for (const part of this.element.querySelectorAll('[data-edge], [data-letters], [data-arrow]')) {
+      part.classList.toggle('pointed', Object.values(part.dataset).includes(at));
+    }
   }
 
   /** Scrolls the picture to the arrow that is shown last, where it goes on to the side. */
@@ -244,34 +234,52 @@ class CyclePanel {
   }
 
   move(way) {
-    this.show({ first: 1, back: this.shown - 1, next: this.shown + 1, all: this.last }[way]);
+    const next = isLecture() && this.shown >= this.closed ? this.last : this.shown + 1; // there the cycle is what counts
+    this.show({ first: 1, back: this.shown - 1, next, all: this.last }[way]);
+    if (this.element.matches('.tall') && this.shown <= this.cycle.length) this.scrollTo(this.shown - 1);
+  }
+
+  /** Notes whether the picture is higher than the window, and whether the list then stands beside it. */
+  seeHeight() {
+    const { offsetTop, offsetHeight } = this.picture, isTall = offsetHeight > innerHeight - this.bar.offsetHeight;
+    this.element.classList.toggle('tall', isTall);
+    this.told.classList.toggle('boxed', isTall && this.told.offsetTop < offsetTop + offsetHeight);
+  }
+
+  /** Scrolls the page to an arrow, and the list to its sentence. From then on the bar stays at the window's top. */
+  scrollTo(at) {
+    const boxOf = part => part.getBoundingClientRect(), { height } = boxOf(this.bar), item = this.sentences.children[at], least = boxOf(this.element).top;
+    const [arrow, letters] = ['edge', 'letters'].map(name => boxOf(this.picture.querySelector(`[data-${name}="${at}"]`)));
+    const { top, bottom } = arrow.height < innerHeight - height - 2 * CLEAR ? arrow : letters, isSeen = top >= height && bottom <= innerHeight && least <= 0;
+    scrollBy(0, Math.max(isSeen ? 0 : (top + bottom - height - innerHeight) / 2, least));
+    this.told.scrollTop += boxOf(item).top - boxOf(this.told).top - (this.told.clientHeight - item.offsetHeight) / 2;
   }
 
   /** What the step says: in sight where the sentences beside the picture aren't, and for readers of screens. */
-  say(edges) {
-    const [edge] = edges, end = this.shown === this.last && this.end.textContent !== '' ? [' ', html('strong', {}, this.end.textContent)] : [];
-    const one = [chipOf(edge.relation, this.isNarrow), ` ${edgeSentence(edge)}`,
+  say(edge) {
+    const isEnd = this.end.textContent !== '' && (this.shown === this.closed || this.shown === this.last);
+    const said = edge === undefined ? ['All arrows that are drawn.'] : [`${arrowName(this.shown - 1)} `, chipOf(edge.relation, this.isNarrow), ` ${edgeSentence(edge)}`,
       html('span', { class: 'faint' }, ` ${meaningOf(edge.relation, this.cycle)}`)];
-    this.said.replaceChildren(...(edges.length === 1 ? one : ['The other arrows of this execution.']), ...end);
+    this.said.replaceChildren(...said, ...(isEnd ? [' ', html('strong', {}, this.end.textContent)] : []));
   }
 
   show(step) {
-    const shown = this.shown = Math.min(this.last, Math.max(1, step)), count = this.stops[shown - 1], from = this.stops[shown - 2] ?? 0;
-    const isAll = shown === this.last, isNow = at => this.last > 1 && at >= from && at < count;
-    for (const drawn of ['[data-edge]', '[data-letters]']) {
-      this.picture.querySelectorAll(drawn).forEach((edge, at) => {
-        edge.classList.toggle('later', at >= count);
-        edge.classList.toggle('now', isNow(at));
+    const shown = this.shown = Math.min(this.last, Math.max(1, step)), isAll = shown === this.last, isAlone = shown > this.closed;
+    const isNow = at => this.last > 1 && at === shown - 1, isLater = at => !isAll && (isAlone ? !isNow(at) : at >= shown);
+    for (const drawn of ['[data-edge]', '[data-letters]', '[data-arrow]']) {
+      this.element.querySelectorAll(drawn).forEach((part, at) => {
+        part.classList.toggle('later', isLater(at));
+        part.classList.toggle('now', isNow(at));
       });
     }
     [...this.sentences.children].forEach((item, at) => {
-      item.classList.toggle('later', at >= count);
       if (isNow(at)) item.setAttribute('aria-current', 'step');
       else item.removeAttribute('aria-current');
     });
-    this.end.classList.toggle('later', !isAll);
+    this.end.classList.toggle('later', shown < this.closed);
+    this.element.classList.toggle('untold', shown < (this.closed || this.last));
     this.count.textContent = `Step ${shown} of ${this.last}`;
-    this.say(this.cycle.slice(from, count));
+    this.say(this.cycle[shown - 1]);
     this.keepInSight();
     const isOff = { first: shown === 1, back: shown === 1, next: isAll, all: isAll };
     for (const button of this.buttons) putOff(button, isOff[button.dataset.edges]);

@@ -194,7 +194,10 @@ const SPEEDS = [0.5, 1, 2, 4, 8, 16, 32]; // choices in a second
 
 function play() {
   if (!drive.isOn || isAtEnd(drive)) return;
-  if (drive.count >= drive.words.length) drawSeed();
+  if (drive.count >= drive.words.length) {
+    drawSeed();
+    leaveOutStalls();
+  }
   stopPlaying();
   timers.playing = setInterval(() => {
     goTo(drive.count + 1);

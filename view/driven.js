@@ -11,7 +11,7 @@ function showDrive() {
   const step = history.steps[count - 1];
   const before = step && history.machineAfter(count - 1);
   const said = step ? `${step.choice}: ${stepSentences(step, before, history.programs, isPlain).join(' ')}` : count === 0 ? startSentence(history) : 'The first machine\'s test has ended.';
-  byId('sentence').textContent = lessonTells() ? '' : ofFirst(history, step ? ', ' : ': ') + said + nextSentence();
+  byId('sentence').textContent = lessonTells() ? '' : ofFirst(history, step ? ', ' : ': ') + said;
   byId('count').textContent = `${choicesSaid(count)} made`;
   showMoves();
   showBranches();
@@ -43,15 +43,8 @@ const choicesSaid = count => `${count} ${count === 1 ? 'choice' : 'choices'}`;
 function startSentence(history) {
   const known = drive.words.length, seed = /^\s*seed\s+(\d+)\s+\d+\s*$/.exec(choicesText())?.[1], by = seed === undefined ? '' : `, drawn by chance from seed ${seed}`;
   const whose = drive.words === fromExample.words ? `This example comes with ${choicesSaid(known)}` : known === 1 ? 'One choice is known' : `${known} choices are known`;
-  if (known > 0) return `The machine at its start. ${whose}${by}: Forward makes ${known === 1 ? 'it' : 'them'}.`;
+  if (known > 0) return `The machine at its start. ${whose}${by}: ${isLecture() ? 'PageDown' : 'Forward'} makes ${known === 1 ? 'it' : 'them'}.`;
   return `Press step or drain at a core: its next instruction, or its oldest store to memory.${leastSentence(history)}`;
-}
-
-/** In a lecture, at a run's end: which test of the list a clicker opens next. */
-function nextSentence() {
-  const { at } = playlist, next = taught.list[at + 1];
-  if (!isLecture() || at < 0 || drive.count === 0 || !isAtEnd(drive)) return '';
-  return next === undefined ? ` ${LIST_END}.` : ` Next: ${next.name}.`;
 }
 
 function showMoves() {
@@ -67,15 +60,14 @@ function markKeyed(isAsked) {
 }
 
 const SCROLLBAR = 17; // pixels, at most
-const LECTURE_MOST = 0.4; // in a lecture, before the picture is made larger
-const FRAME_MOST = 0.68; // of the window's height, as the style has it
+const frameMost = () => (!isLecture() ? 0.68 / drawn.picture.zoom : innerWidth > 1500 ? 0.4 : 0.44); // of the window's height, as the style has it
 
-/** By how much the picture is larger than it is drawn, as it is in a lecture. */
+/** By how much the picture is larger than it is drawn, as it is in a lecture and in a large window. */
 const zoomOfPicture = () => Number(getComputedStyle(byId('frame')).zoom) || 1;
 
 function makePicture() {
   const room = byId('frame').parentElement.clientWidth / zoomOfPicture() - SCROLLBAR;
-  const picture = drawn.picture = Object.assign(new GrowingPicture(firstHistory(), room), { room });
+  const picture = drawn.picture = Object.assign(new GrowingPicture(firstHistory(), room), { room, zoom: zoomOfPicture() });
   shown.layout = picture.layout;
   byId('frame').classList.toggle('whole', picture.layout.width <= room);
   byId('frame').style.containIntrinsicWidth = `${picture.layout.width}px`;
@@ -87,8 +79,11 @@ function showPicture() {
   if (drawn.picture === null || drawn.picture.isTooNarrowFor(firstHistory())) makePicture();
   drawn.picture.show(firstHistory(), drive.count);
   const isOver = firstHistory().hasEnded(drive.count), isEmpty = drawn.picture.rows.length === 0;
-  putText(byId('order-title'), isOver ? 'Memory order' : isEmpty ? 'Memory order: nothing in memory yet' : 'Memory order so far');
-  byId('frame').classList.toggle('full', drawn.picture.bottom - HEAD > (isLecture() ? LECTURE_MOST : FRAME_MOST) * innerHeight);
+  putText(byId('order-title'), isOver ? 'Memory order' : isEmpty ? 'Memory order: no entry yet' : 'Memory order so far');
+  const { layout: { top }, extent, bottom } = drawn.picture, most = frameMost() * innerHeight;
+  const height = (isLecture() ? top(mostRows(firstHistory().programs)) + STRIP : bottom) - HEAD;
+  extent.style.minHeight = isLecture() && height <= most ? `${height}px` : '';
+  byId('frame').classList.toggle('full', height > most);
 }
 
 /** Brings the last row into sight, and where the picture goes on to the side the lane of the core that acted. */
@@ -118,7 +113,8 @@ function runAtEnd(history) {
 function showEnd(history) {
   const line = runAtEnd(history), run = line && readLine(line);
   Object.assign(shown, { run, line: line ?? '' });
-  putText(byId('verdict'), run ? verdictSentence(run, history.proposition) : conditionSentence(history));
+  const verdict = run ? (isLecture() && endSentence(history, run)) || verdictSentence(run, history.proposition) : conditionSentence(history);
+  putCondition(byId('verdict'), verdict);
   showPasses(history);
   byId('at-end').hidden = run === null;
   byId('comparison').hidden = run === null;
@@ -141,6 +137,12 @@ function conditionSentence({ proposition }) {
   const wanted = wantedWords(proposition), inWords = wanted === null ? '' : `${wantedSentence(wanted)}, written `;
   if (isLecture() && wanted !== null) return `Condition: ${wantedSentence(wanted)}.`;
   return `Condition: ${inWords}${proposition}.`;
+}
+
+/** Whether a run ended as is asked, in words alone; null where the condition has none. */
+function endSentence({ proposition }, { condition }) {
+  const wanted = condition && wantedWords(proposition), isSo = wanted && missedPlaces(firstHistory(), drive.count, wanted).length === 0;
+  return wanted && `${isSo ? 'It can be: this run ends' : 'This run doesn\'t end'} with ${wantedSentence(wanted)}.${isSo ? '' : ' It tells nothing about other runs.'}`;
 }
 
 const showOrder = () => byId('order').replaceChildren(...(shown.run ? [orderTable(shown.run)] : []));

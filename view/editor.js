@@ -173,6 +173,53 @@ function focusRefusal() {
   for (const part of [byId('told'), band]) part.scrollIntoView({ block: 'nearest' });
 }
 
+/** Hints that name what is certain to be meant, each with its line first, then with what is changed there, and to what. */
+const CELL = /^'?(.+?)'?(?=:| is).*(?:: write|one step:) ((?:LOCK )?[A-Z]+(?: \S+)?)\s*$/, SIGNS = { '&': '/\\', '|': '\\/', '=': '=' };
+const REPAIRS = [
+  [/^(\w+) (?:is no register|has 64 bits).*write (\w+)\s*$/, ([, word, other]) => [new RegExp(`\\b${word}\\b`, 'gi'), other]],
+  [/^no ; ends th(is|e) row/, () => [/\s*$/, ' ;']],
+  [/^'[&|=]': in a condition/, () => [/&&?|\|\|?|==/g, ([first]) => SIGNS[first]]],
+];
+const MOST_REPAIRED = 256; // as many cells as a test has
+
+/** A test with what its hint says in each such place of its line, and how many these are; else null. */
+function repaired(test, hint = '') {
+  const [, number, said = ''] = /^hint: line (\d+): (.*)/.exec(hint) ?? [], at = number - (said.includes('cores in the line before') ? 2 : 1), lines = test.split('\n'), line = lines[at] ?? '';
+  const [, cell, other] = CELL.exec(said) ?? [], cells = cellsOf(line).filter(({ text }) => text === cell), [pattern, change] = REPAIRS.find(each => each[0].test(said)) ?? [];
+  const inCell = part => (part.trim() === cell ? part.replace(cell, () => other) : part), [from, to] = cells.length > 0 || !pattern ? [/[^|;]+/g, inCell] : change(pattern.exec(said));
+  const count = cells.length || (pattern && line.match(from)?.length);
+  if (!count) return null;
+  lines[at] = line.replace(from, to);
+  return { text: lines.join('\n'), count };
+}
+
+/** A test whose programs have their columns aligned; as it is where a row isn't plain. */
+function aligned(text) {
+  const lines = text.split('\n'), first = lines.findIndex(line => /^\s*P\d+\s*[|;]/.test(line)), last = lines.findLastIndex(line => /;\s*$/.test(line));
+  const rows = lines.slice(first, last + 1), cells = rows.map(line => cellsOf(line).map(each => each.text)), widths = cells[0]?.map((_, core) => Math.max(...cells.map(row => row[core]?.length)));
+  if (first < 0 || rows.some((line, at) => /\(\*|;.*;|^[^;]*$/.test(line) || cells[at].length !== widths.length)) return text;
+  return [...lines.slice(0, first), ...cells.map(row => ` ${row.map((cell, core) => cell.padEnd(widths[core])).join(' | ')} ;`), ...lines.slice(last + 1)].join('\n');
+}
+
+/** Writes what is certain to be meant, up to a mistake that leaves a choice: one edit. */
+function writeRepairs() {
+  const field = byId('test'), { options } = readSettings('run');
+  let count = 0, { hint } = bench.answer, { value: text } = field;
+  for (let found = repaired(text, hint); found !== null && count < MOST_REPAIRED; found = repaired(text, hint)) {
+    ({ text } = found);
+    count += found.count;
+    ({ hint } = asked(options, text));
+  }
+  undoing.field = null;
+  field.focus();
+  field.select();
+  document.execCommand('insertText', false, aligned(text)); // which the field can undo, too
+  const said = `Changed: ${count} place${count === 1 ? '' : 's'}. Undo takes all back. `, isRefused = bench.answer?.status === Tso.STATUS.refused;
+  if (isRefused) focusRefusal();
+  else notice.said = said + noticeOf(inputOf('sweep')); // while the test is the same
+  putText(document.querySelector('.noticed'), isRefused ? said : notice.said);
+}
+
 /** Marks what is refused, or nothing, and says it in plain words. */
 function markRefusal({ text: line, hint }) {
   const place = placeOfRefusal(line, hint), cell = place?.field === 'test' ? cellAtFault(byId('test').value.split('\n')[place.line - 1] ?? '', hint ?? '') : null;
@@ -182,6 +229,7 @@ function markRefusal({ text: line, hint }) {
   markCell(cell);
   for (const id of ['test', 'choices', 'given']) byId(id).setAttribute('aria-invalid', String(place?.field === id));
   byId('remove-choices').hidden = !place?.word;
+  byId('write-so').hidden = place?.field !== 'test' || repaired(byId('test').value, hint) === null;
 }
 
 /** Removes choices that are refused, which shows the machine again. */

@@ -47,8 +47,8 @@ function putChildren(element, children) {
   });
 }
 
-/** Switches a button off or on. It keeps the focus, so what it does has to look whether it is off. */
-const putOff = (button, isOff) => button.setAttribute('aria-disabled', String(isOff));
+/** Switches a button off or on. It keeps the focus, so what it does has to look whether it is off; but no Tab leads to one that is off. */
+const putOff = (button, isOff) => setAll(button, { 'aria-disabled': isOff, tabindex: isOff ? -1 : 0 });
 
 /** An element that is drawn anew only where what it shows isn't what it showed. */
 class Part {

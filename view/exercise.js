@@ -5,7 +5,7 @@
 const MOST_ASKED = 400; // characters of the question
 
 /** The exercise that was opened: its test, what is asked, what the reader thinks, `can` or `cannot`, what the test itself asks, and what an answer
- * said of that thought. What isn't known yet is null. */
+ * said of that thought; null where it isn't known yet. */
 const exercise = { test: null, asked: '', thought: null, question: null, judged: null };
 
 const isExercise = () => exercise.test !== null && exercise.test === byId('test').value && lesson.told === null;
@@ -29,12 +29,18 @@ function showExercise() {
   byId('exercise').hidden = !isOn;
   if (!isOn) return;
   putText(byId('exercise-asked'), asked === '' ? 'Exercise: what do you think?' : `Exercise: ${asked}`);
-  for (const button of byId('exercise').querySelectorAll('button')) {
+  for (const button of byId('exercise-answers').querySelectorAll('button')) {
     putOff(button, thought !== null); // the one that was pressed keeps the focus
     button.setAttribute('aria-pressed', String(button.dataset.thought === thought));
   }
   const answered = exercise.judged ?? `You said: ${thoughtSaid()}. “Why can or can't it be?” tells whether that is so.`;
   putText(byId('exercise-thought'), thought === null ? 'Try it below, then say what you think.' : answered);
+}
+
+/** Puts the answers behind the question; where that is the teacher's own, behind the condition, which they answer. */
+function placeAnswers(isOwn) {
+  const answers = byId('exercise-answers'), place = byId(isOwn ? 'task-said' : 'exercise-asked');
+  if (place.nextElementSibling !== answers) place.after(answers);
 }
 
 const thoughtSaid = () => (exercise.thought === 'can' ? 'it can be' : 'it can’t be');
@@ -57,33 +63,59 @@ function judgeThought(can) {
   return [html('strong', { class: isRight ? 'judged' : 'judged wrong' }, exercise.judged), ' '];
 }
 
+const nameIn = test => /^X86\s+(.*\S)/m.exec(test)?.[1];
+
 /** What a test asks, to begin with: by its line `Asks=`, or by its condition. */
 function questionOf(test) {
   const { proposition } = readTest(test), { Asks } = notesOf(test);
   if (Asks || proposition === null) return Asks ?? '';
+  const own = TASKS[`${nameIn(test)} ${proposition}`]?.match(/^Make (.*)\.$/);
+  if (own && quantifierOf(test) === 'exists') return `Can ${own[1]}?`;
   const wanted = wantedWords(proposition), end = wanted === null ? proposition : wantedSentence(wanted);
   return quantifierOf(test) === 'forall' ? `Does each run end with ${end}?` : `Can a run end with ${end}?`;
 }
 
-/** Asks for the wording before it is saved. */
+/** The task over a test, as a question: where it is to explain what is counted, and that is in sight, why it is so. */
+function proposedQuestion(test) {
+  const own = TASKS[`${nameIn(test)} ${readTest(test).proposition}`];
+  return own?.includes('miss') && showsCaches(drivenMachines()) ? own.replace(/^[^.]*\. /, '') : questionOf(test);
+}
+
+/** Asks for the wording. */
 function beginExercise() {
-  byId('exercise-form').hidden = false;
-  byId('exercise-said').value = questionOf(inputOf('sweep'));
+  const form = byId('exercise-form');
+  byId(byId('run').hidden ? 'way-back' : 'saves').append(form);
+  form.hidden = false;
+  byId('exercise-said').value = proposedQuestion(inputOf('sweep'));
   byId('exercise-said').focus();
 }
 
 /** A test without the lines that tell what is allowed, or was seen. */
 const withoutVerdicts = test => test.replace(/^(?:TSO|SC|Seen)=.*\n/gm, '');
 
-/** The page with this test, its settings, what stands beside and the question alone: no choices, no list, and nothing asked. */
-function saveExercise() {
-  const isKept = ([name]) => name === 'beside' || name === 'caches', { lessons } = taught, test = withoutVerdicts(byId('test').value);
-  const asked = byId('exercise-said').value.trim().slice(0, MOST_ASKED);
-  const address = new URLSearchParams([['test', test], ...changedSettings(), ...driven().filter(isKept), ['exercise', asked]]).toString();
-  return saveWhole(fileName(`${testName()}-exercise`, '.html'), () => wholePage(address, lessons.length === 0 ? '' : JSON.stringify({ lessons })));
+/** The address of an exercise: the test of an address with its settings and what stands beside, and the question. */
+function exerciseAt(address, asked) {
+  const told = new URLSearchParams(address), test = withoutVerdicts(told.get('test'));
+  for (const name of ['choices', 'order', 'command', 'at', 'thought']) told.delete(name);
+  told.set('test', test);
+  told.set('exercise', asked ?? told.get('exercise') ?? questionOf(test));
+  return told.toString();
 }
 
-SAVES.exercise = beginExercise;
+/** The page with this test alone. */
+function saveExercise() {
+  const asked = byId('exercise-said').value.trim().slice(0, MOST_ASKED), address = exerciseAt(currentAddress(), asked), { lessons } = taught;
+  const seen = `${asked === '' ? '' : ` It asks: “${asked}”`} It starts without choices, and hides the answers until students have answered.`;
+  return saveWhole(fileName(`${testName()}-exercise`, '.html'), () => wholePage(address, lessons.length === 0 ? '' : JSON.stringify({ lessons })), seen);
+}
+
+/** The page with an exercise for each test of the list. */
+function saveExercises() {
+  const names = new Map(taught.list.map(entry => [exerciseAt(entry.address), plainName(entry)])), list = [...names].map(([address, name]) => ({ name, address }));
+  return saveWhole(`${list.length}-exercises.html`, () => wholePage(list[0].address, JSON.stringify({ lessons: taught.lessons, list })));
+}
+
+Object.assign(SAVES, { exercise: beginExercise, exercises: saveExercises });
 byId('exercise-form').addEventListener('submit', event => {
   event.preventDefault();
   byId('exercise-form').hidden = true;

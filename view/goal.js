@@ -6,7 +6,7 @@
 const TASKS = {
   'SB 0:EAX=0 /\\ 1:EAX=0': 'Make both loads read 0.',
   'SBF 0:EAX=0 /\\ 1:EAX=0': 'Make both loads read 0, past the fences.',
-  'false-sharing 1:EAX=1': 'Let each core use its own word alone, and count the misses at “Bus”.',
+  'false-sharing 1:EAX=1': 'Step to the end. Each core uses its own word alone: why does each access miss?',
 };
 
 /** The places of a proposition with the words that it wants there, where it speaks of nothing else; else null. */
@@ -26,7 +26,7 @@ const quantifierOf = test => /^[ \t]*(~[ \t]*exists|exists|forall)\b/m.exec(test
 /** What a task asks for, in words. `forall` is shown wrong by any other end. */
 function taskSentence(name, proposition, quantifier) {
   const own = TASKS[`${name} ${proposition}`], wanted = wantedWords(proposition);
-  if (own && quantifier === 'exists' && (!own.includes('misses') || showsCaches(drivenMachines()))) return own;
+  if (own && quantifier === 'exists' && (!own.includes('miss') || (showsCaches(drivenMachines()) && !isExercise()))) return own;
   const said = wanted ? wantedSentence(wanted) : proposition;
   return quantifier === 'forall' ? `End otherwise than with ${said}.` : `End with ${said}.`;
 }
@@ -92,7 +92,7 @@ function missedSentence(history, count, quantifier) {
 
 /** That it is done; where misses were to be counted, how many there are. */
 function doneWord(history, count) {
-  const isCounted = TASKS[`${testName()} ${history.proposition}`]?.includes('misses') && showsCaches(drivenMachines());
+  const isCounted = TASKS[`${testName()} ${history.proposition}`]?.includes('miss') && showsCaches(drivenMachines());
   if (!isCounted) return 'Done.';
   const under = drive.histories.length > 2 ? `Under ${history.options.protocol.toUpperCase()}: ` : 'With ';
   return `Done. ${under}${tallyText(history.steps, count).replace('so far ', '')}.`;
@@ -119,12 +119,24 @@ function taskWords(quantifier, proposition, isDone, can) {
   return isRefuted() ? `${task} It can’t be done: ${quantifier === 'forall' ? 'each' : 'no'} run ends so.` : `☐ ${taskTitle(can)} ${task}`;
 }
 
+const lectured = { key: null }; // of which test the question stands there
+
+/** What a lecture asks, in short, over its machine. */
+function showQuestion() {
+  if (!isLecture()) return;
+  const test = isExercise() || lesson.told !== null ? '' : drive.test, key = `${test}${byId('run').className}`;
+  if (lectured.key !== key) putText(byId('asked-line'), test === '' ? '' : proposedQuestion(test).replace(/^.*: w/, 'W'));
+  lectured.key = key;
+}
+
 /** Shows the task, and when it is met why, by what the loads passed. `run` is the run, where it has ended. After a try that missed what
  * may be impossible the page offers to say why. */
 function showTask(history, count, run) {
   showExercise();
+  showQuestion();
   const { proposition } = history, quantifier = quantifierOf(drive.test), hasTask = proposition !== null && quantifier !== null && lesson.told === null;
   byId('task').hidden = !hasTask;
+  placeAnswers(hasTask && isExercise() && !isAskedTwice());
   if (!hasTask) return;
   askPossibleSoon();
   const can = isUnanswered() ? null : canBe(), met = isMet(history, count, run?.condition, quantifier);

@@ -18,7 +18,7 @@ class WaitingBar {
   constructor(layout, store) {
     const { top, pitch } = layout, x = layout.trackOf(store), wide = Math.min(7, pitch * 0.7);
     const head = pitch === TRACK.most ? 13 : 2;
-    const place = head > 2 ? [textAt({ class: 'faint', x, y: top(store.since) + 11 }, 10, String(store.place))] : [];
+    const place = head > 2 ? [nameOverBar(layout, store, top(store.since))] : [];
     this.top = top(store.since) + head;
     this.bar = svg('rect', { class: 'certain', x: x - wide / 2, y: this.top, width: wide });
     this.element = svg('g', { class: 'wait open', 'data-since': store.since, 'data-name': nameOf(store) },

@@ -109,13 +109,14 @@ function stepSentences(step, before, programs, isPlain = false) {
   if (step.transaction) sentences.push(`${step.transaction} went on the bus.`);
   if (step.flush) sentences.push(`${step.flush} sent its copy to memory.`);
   if (step.write_back) sentences.push(`The line ${step.write_back} was written back to memory.`);
-  return [...sentences, ...takenSentences(step)];
+  return [...sentences, ...copySentences(step)];
 }
 
-/** That a step took the copies of other cores away: all are of the one line that went on the bus. */
-function takenSentences(step) {
-  const taken = stateChanges(step).filter(({ core, before, after }) => core !== coreOfChoice(step.choice) && before !== 'I' && after === 'I');
-  if (taken.length === 0) return [];
+/** What a step did to the copies of other cores, all of the one line that went on the bus: it took them, or one keeps it as its owner. */
+function copySentences(step) {
+  const others = stateChanges(step).filter(({ core }) => core !== coreOfChoice(step.choice)), taken = others.filter(({ before, after }) => before !== 'I' && after === 'I');
+  const kept = others.filter(({ before, after }) => before === 'M' && after === 'O').map(({ core }) => `P${core} keeps the line as its owner; memory keeps the old word.`);
+  if (taken.length === 0) return kept;
   return [`${listed(taken.map(({ core }) => `P${core}'s`))} ${taken.length === 1 ? 'copy' : 'copies'} of ${taken[0].line} became invalid.`];
 }
 

@@ -52,7 +52,7 @@ function noticeOf(test) {
   if (notice.test === test) return notice.said;
   const found = /the condition names [^]*stays \d+/.exec(asked({ command: 'sweep', seeds: 1 }, test).hint);
   const isNew = said => !found?.[0].includes(said.slice(0, said.indexOf(',')));
-  const said = [...(found === null ? [] : [`${found[0]}.`]), ...unwrittenSaid(test).filter(isNew)];
+  const said = [...(found === null ? [] : [`${found[0].replace(/core (?=\d)/g, 'P')}.`]), ...unwrittenSaid(test).filter(isNew)];
   const line = test.split('\n').findIndex(text => quantifierOf(text) !== null) + 1;
   Object.assign(notice, { test, said: said.length === 0 ? '' : `Note, line ${line}: ${said.join(' And ')}` });
   return notice.said;

@@ -18,7 +18,9 @@ function putLecture(isOn) {
   document.querySelectorAll('[data-lecture]').forEach(nameLecture);
   if (isOn) byId('test-part').open = byId('about').open = false;
   if (shown.run || drive.isOn) redraw();
+  if (drive.isOn) showDrive();
   keepList();
+  drawBar();
   followShown();
   scrollTo(0, 0);
 }
@@ -36,10 +38,10 @@ async function toggleLecture() {
   }
 }
 
-/** Opens a list that was saved: several tests are a lecture, so that a clicker steps them at once. After a reload it goes on at its place. */
+/** Opens a list that was saved: several tests are a lecture, which a clicker steps at once, but no exercises. After a reload it goes on at its place. */
 function openLecture(at = 0) {
   openListed(Math.min(Math.max(0, at), taught.list.length - 1));
-  if (taught.list.length > 1) putLecture(true);
+  if (taught.list.length > 1 && !isExercise()) putLecture(true);
 }
 
 // A clicker has the keys PageUp and PageDown: they step what is shown.
@@ -78,9 +80,9 @@ function clickSheet(isOn) {
 
 /** Where no choice is known: says what to press. By a second press come the choices that were left, or the next test of the list. */
 function clickUnknown() {
-  const [left] = otherBranches(), next = listedNext(), onward = left ? 'what was to come' : next && `the next test: ${next.name}`;
+  const [left] = otherBranches(), next = listedNext(), onward = left ? 'back to the prepared run' : next && `the next test, ${next.name}`;
   const known = `No ${drive.count === 0 ? '' : 'more '}choices yet, so PageDown has nothing to step`;
-  const said = `${known}: press a step or a drain of a core.${onward ? ` Once more for ${onward}.` : ''}`;
+  const said = `${known}: press a step or a drain of a core.${onward ? ` PageDown once more: ${onward}.` : ''}`;
   if (!onward || byId('sentence').textContent !== said) return sayOfDriving(said);
   return left ? takeBranch(0) : openListed(playlist.at + 1);
 }

@@ -4,8 +4,7 @@
 
 const IN_LESSON = Object.freeze({ told: null, at: 0, isDone: false, answer: null, refused: '' });
 
-/** The lesson that runs (`told`, null while none does), the number of its step, whether what the step wants is done, what was answered, and what
- * is said of a wrong press (`refused`). */
+/** The lesson that runs (`told`, or null), its step, whether what that wants is done, what was answered, and what is said of a wrong press. */
 let lesson = IN_LESSON;
 
 const putLesson = changes => { lesson = Object.freeze({ ...lesson, ...changes }); };
@@ -17,15 +16,20 @@ const lessonNamed = name => lessonsHere().find(each => each.name === name);
 const nextLesson = () => lessonsHere()[lessonsHere().indexOf(lesson.told) + 1];
 const stepNow = () => lesson.told.steps[lesson.at];
 
-/** The number of the step before which the machine begins anew: the last one up to a step that has a test of its own, or the first. */
+/** The step at which a step's part begins: the last one up to it that has a test of its own, or the first. */
 const beginOf = (steps, at) => Math.max(0, steps.findLastIndex((step, each) => each <= at && step.test !== undefined));
-/** The place of a step, counted in its part: a step with a test of its own begins another part. */
+/** The place of a step, counted in its part. */
 function placeSaid(steps, at) {
   const begins = [0, ...steps.flatMap(({ test }, each) => (test !== undefined && each > 0 ? [each] : [])), steps.length];
   const part = begins.findLastIndex(each => each <= at);
-  const of = begins.length > 2 ? `, part ${part + 1} of ${begins.length - 1}` : '';
-  return `Step ${at - begins[part] + 1} of ${begins[part + 1] - begins[part]}${of}`;
+  const of = begins.length > 2 ? `Part ${part + 1} of ${begins.length - 1}, s` : 'S';
+  return `${of}tep ${at - begins[part] + 1} of ${begins[part + 1] - begins[part]}`;
 }
+/** A choice as it is pressed, and what a step says: it names the button. */
+const pressWords = word => `${isDrain(word) ? 'drain' : 'step'} at P${coreOfChoice(word)}`;
+const keysSaid = ([core, way]) => (matchMedia('(pointer: coarse)').matches ? '' : ` (keys ${core} ${way})`);
+const saidAt = ({ say = '', do: word }) => (word === undefined || /press/i.test(say) ? say : `${say} Press ${pressWords(word)}${keysSaid(word)}.`.trim());
+
 /** The choices that the steps before one make, on its test. */
 const choicesBefore = (steps, at) => steps.slice(beginOf(steps, at), at).flatMap(step => step.do ?? []);
 /** What a step's machine is made of: the lesson, or the step's own test in its place. */
@@ -90,7 +94,7 @@ function endLesson() {
 /** The lesson that was left last, at which step, and its test; null before. */
 let leftLesson = null;
 
-/** Leaves the lesson: its run stays, with the task over it, a way back to the lesson, and one to the first test. */
+/** Leaves the lesson: its run stays, with its task and the ways back. */
 function leaveLesson() {
   const { told: { name, title }, at } = lesson;
   endLesson();
@@ -112,12 +116,13 @@ function toFirstTest() {
   byId('run').scrollIntoView({ block: 'nearest' });
 }
 
-/** Says whose test this is after a lesson was left, until there is another test. */
+/** Says whose test this is after a lesson was left, until there is another test. Also leads back from one with an error. */
 function showLeft() {
-  const isShown = leftLesson !== null && lesson.told === null && leftLesson.test === byId('test').value;
-  byId('left-lesson').hidden = !isShown;
-  if (!isShown) return;
-  putText(byId('left-said'), `This is the test of the lesson “${leftLesson.title}”${drive.isOn && drive.count > 0 ? ', and your run goes on' : ''}.`);
+  const isLeft = leftLesson?.test === byId('test').value, isRefused = byId('test').matches('[aria-invalid=true]');
+  byId('left-lesson').hidden = lesson.told !== null || !(isLeft || isRefused);
+  byId('lesson-again').hidden = !isLeft;
+  const goesOn = drive.isOn && drive.count > 0 ? ', and your run goes on' : '';
+  putText(byId('left-said'), isLeft ? `This is the test of the lesson “${leftLesson.title}”${goesOn}.` : 'This test has an error.');
   byId('to-first-test').hidden = byId('test').value === partsOf(EXAMPLES[FIRST_TEXT]).test;
 }
 
@@ -132,15 +137,14 @@ function lessonAllows(word) {
   return false;
 }
 
-/** Says in the lesson's box why a press does nothing. */
 function refuseInLesson(wanted) {
-  const now = wanted ? `The lesson goes on with ${wanted}` : lesson.isDone ? 'The lesson goes on with Next' : 'First answer the question';
+  const now = wanted ? `The lesson goes on with ${pressWords(wanted)}` : lesson.isDone ? 'The lesson goes on with Next' : 'First answer the question';
   putLesson({ refused: `${now}. Leave the lesson to go your own way.` });
   drawLesson();
   focusStep({ preventScroll: true });
 }
 
-/** Whether a lesson tells what happens, so that the sentence over the machine needn't. At its last step each choice is free. */
+/** Whether a lesson tells what happens, so that the sentence over the machine needn't. */
 function lessonTells() {
   if (lesson.told === null) return false;
   const { steps } = lesson.told, { at } = lesson, { do: word, then } = stepNow();
@@ -174,7 +178,6 @@ function showInLesson() {
 
 // What is drawn.
 
-/** What is said after an answer: whether it is right, where there is a right one, and why. */
 function judgedAnswer({ right, because }, answer) {
   if (right === undefined) return because;
   return `${answer === right ? 'Right.' : `Not so: the answer is “${right}”.`} ${because}`;
@@ -184,7 +187,7 @@ function judgedAnswer({ right, because }, answer) {
 function showSentences() {
   const step = stepNow(), { isDone, answer, refused } = lesson;
   const after = step.ask === undefined ? step.then : answer === null ? undefined : judgedAnswer(step, answer);
-  putText(byId('lesson-said'), step.ask ?? step.say);
+  putText(byId('lesson-said'), step.ask ?? saidAt(step));
   const said = [isDone ? after : '', refused].filter(Boolean).join(' ');
   byId('lesson-after').hidden = said === '';
   putText(byId('lesson-after'), said);
@@ -194,29 +197,29 @@ function showSentences() {
 }
 
 function lessonButtons() {
-  const { answers = [], show } = stepNow();
+  const { answers = [], right, show } = stepNow();
   const button = (attributes, text, isOff) => html('button', { type: 'button', ...attributes, ...(isOff ? { disabled: '' } : {}) }, text);
   return [
-    ...answers.map(answer => button({ 'data-answer': answer, 'aria-pressed': String(answer === lesson.answer) }, answer, lesson.answer !== null)),
+    ...answers.map(answer => button({ 'data-answer': answer, class: lesson.answer !== null && answer === right ? 'right' : '', 'aria-pressed': String(answer === lesson.answer) }, answer, lesson.answer !== null)),
     ...(show === undefined ? [] : [button({ 'data-show': show, class: lesson.isDone ? '' : 'main' }, LESSON_SHOWS[show].says)]),
   ];
 }
 
-/** The button of a core that the lesson waits for. */
 function markWanted() {
   const wanted = lesson.told === null || lesson.isDone ? undefined : stepNow().do;
   for (const button of document.querySelectorAll('[data-choice]')) button.classList.toggle('wanted', button.dataset.choice === wanted);
 }
 
-/** What stands at the button that goes on: at the last step it begins the next lesson, where there is one. */
+/** What stands at the button that goes on. */
 function showNext() {
-  const isLast = lesson.at === lesson.told.steps.length - 1, next = nextLesson();
-  byId('lesson-next').textContent = !isLast ? 'Next' : next ? `Next lesson: ${next.title}` : 'End of the lesson';
+  const { told: { steps }, at } = lesson, isLast = at === steps.length - 1, next = nextLesson(), part = steps[at + 1]?.title;
+  byId('lesson-next').textContent = part ? `Next: ${part}` : !isLast ? 'Next' : next ? `Next lesson: ${next.title}` : 'End of the lesson';
   byId('lesson-next').disabled = !lesson.isDone;
   byId('lesson-back').disabled = lesson.at === 0;
+  putText(byId('lesson-also'), stepNow().also?.says ?? '');
 }
 
-/** Brings the picture into sight where a step speaks of it, and marks it. */
+/** Marks the picture, in sight, where a step speaks of it. */
 function lookAtPicture() {
   const isLooked = lesson.told !== null && lesson.isDone && stepNow().look === 'picture';
   byId('frame').classList.toggle('looked', isLooked);
@@ -227,12 +230,14 @@ function drawLesson() {
   const isOn = lesson.told !== null;
   document.documentElement.classList.toggle('learning', isOn);
   document.documentElement.classList.toggle('questioned', isOn && !lesson.isDone && stepNow().ask !== undefined);
+  const { at, isDone } = lesson, asked = isOn && lesson.told.steps.findIndex((step, each) => step.ask && each >= beginOf(lesson.told.steps, at));
+  document.documentElement.classList.toggle('unasked', isOn && at < asked + !isDone); // what waits may tell the answer
   byId('lesson').hidden = !isOn;
   showLeft();
   markWanted();
   if (!isOn) return;
   putText(byId('lesson-title'), lesson.told.steps[beginOf(lesson.told.steps, lesson.at)].title ?? lesson.told.title);
-  const { do: word, ask: question } = stepNow(), first = lesson.isDone ? '' : word !== undefined ? `: first press ${word}` : question !== undefined ? ': first give an answer' : ': first press the button';
+  const { do: word, ask: question } = stepNow(), first = lesson.isDone ? '' : word !== undefined ? `: first press ${pressWords(word)}` : question !== undefined ? ': first give an answer' : ': first press the button';
   putText(byId('lesson-place'), placeSaid(lesson.told.steps, lesson.at) + first);
   showSentences();
   byId('lesson-answers').replaceChildren(...lessonButtons());
@@ -251,36 +256,48 @@ function goOn() {
   if (next) beginLesson(next.name);
 }
 
-/** Puts the focus on what a step waits for. */
+/** Goes where a step's link leads: to a lesson, or to a fold beside the test. */
+function goElsewhere() {
+  const { to } = stepNow().also, fold = byId(to);
+  if (lessonNamed(to)) return beginLesson(to);
+  byId('test-part').open = fold.open = true;
+  fold.firstElementChild.focus();
+}
+
+/** Puts the focus on what a step waits for or asks. */
 function focusStep(how) {
-  const waited = lesson.isDone ? null : document.querySelector('[data-choice].wanted') ?? byId('lesson-answers').querySelector('button');
+  const waited = lesson.isDone ? null : stepNow().ask === undefined ? document.querySelector('[data-choice].wanted, #lesson-answers [data-show]') : byId('lesson-said');
   (waited ?? byId('lesson-next')).focus(how);
 }
 
-/** Brings the list of all lessons into sight, open. */
 function showLessons() {
   byId('lessons-part').open = true;
   byId('lessons-part').scrollIntoView({ block: 'nearest' });
-  (byId('lessons').querySelectorAll('button')[1] ?? byId('lessons').querySelector('button')).focus({ preventScroll: true });
+  (byId('lessons').children[1] ?? byId('lessons')).querySelector('button').focus({ preventScroll: true });
 }
 
-/** The buttons by which lessons begin: the first one stands above, and all of them in their list. */
+/** The buttons by which lessons and their parts begin. */
 function drawLessons() {
   const lessons = lessonsHere(), [{ name, title }, second] = lessons, others = lessons.length - 1;
   byId('first-lesson').dataset.lesson = name;
   byId('first-lesson').textContent = title;
   byId('more-lessons').hidden = others === 0;
   putText(byId('more-lessons'), `${others} more, next: ${second?.title.split(':')[0]}`);
-  byId('lessons').replaceChildren(...lessons.map(each => html('li', {}, html('button', { type: 'button', 'data-lesson': each.name, class: 'quiet' }, each.title))));
+  const link = (of, at, text, ...parts) => html('li', {}, html('button', { type: 'button', 'data-lesson': of, 'data-step': at, class: 'quiet' }, text), ...parts);
+  byId('lessons').replaceChildren(...lessons.map(each => {
+    const parts = each.steps.flatMap(({ title: part }, at) => (part === undefined ? [] : [link(each.name, at, part)]));
+    return link(each.name, 0, each.title, ...(parts.length > 0 ? [html('ul', {}, ...parts)] : []));
+  }));
 }
 
 document.addEventListener('click', ({ target }) => {
-  const { lesson: name, answer, show: shows } = target.dataset ?? {};
-  if (name !== undefined) beginLesson(name);
+  const { lesson: name, step = 0, answer, show: shows } = target.dataset ?? {};
+  if (name !== undefined) beginLesson(name, Number(step));
   else if (answer !== undefined) answerLesson(answer);
   else if (shows !== undefined) showInLesson();
 });
 byId('lesson-next').addEventListener('click', goOn);
+byId('lesson-also').addEventListener('click', goElsewhere);
 byId('lesson-back').addEventListener('click', () => enterStep(lesson.at - 1));
 byId('lesson-leave').addEventListener('click', leaveLesson);
 byId('lesson-again').addEventListener('click', () => beginLesson(leftLesson.name, leftLesson.at));

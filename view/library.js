@@ -58,7 +58,8 @@ function libraryItem(entry) {
   return html('li', {}, button, entry.said === '' ? '' : ` ${entry.said}`);
 }
 
-/** Lists the texts in which each word of the search begins a word, by family: so `MP` finds no *examples*. Those to begin with stand on top. */
+/** Lists the texts in which each word of the search begins a word, by family: so `MP` finds no *examples*. Those to begin with stand on top,
+ * and orders are folded. */
 function showLibrary() {
   const words = wordsOf(byId('search').value), texts = textsHere();
   const found = texts.filter(entry => words.every(word => entry.found.some(each => each.startsWith(word))));
@@ -68,5 +69,8 @@ function showLibrary() {
   for (const entry of rest) if (!isOrderText(entry)) groups.set(entry.group, [...(groups.get(entry.group) ?? []), entry]);
   if (orders.length > 0) groups.set(ORDERS, orders);
   byId('found').textContent = `${found.length} of ${texts.length}`;
-  byId('texts').replaceChildren(...[...groups].flatMap(([group, entries]) => [html('h4', {}, group), html('ul', {}, ...entries.map(libraryItem))]));
+  byId('texts').replaceChildren(...[...groups].flatMap(([group, entries]) => {
+    const list = html('ul', {}, ...entries.map(libraryItem));
+    return group === ORDERS ? [html('details', words.length > 0 ? { open: '' } : {}, html('summary', {}, group), list)] : [html('h4', {}, group), list];
+  }));
 }

@@ -24,9 +24,10 @@ function stopTask() {
 }
 
 /** Begins a long command in a worker. What is shown stays in sight until there is an answer. One that comes again by itself (`isAgain`) is told
- * beside the test, where one writes. */
+ * beside the test, where one writes. An answer that is there already is gone to. */
 async function begin({ isAgain } = {}) {
-  const command = currentCommand(), { options } = showAsked(command);
+  const command = currentCommand(), { options } = showAsked(command), asks = JSON.stringify([options, inputOf(command)]);
+  if (isAgain !== true && bench.told === asks) return focusAnswer();
   stopTask();
   clearTimeout(bench.again);
   byId('about').open = false;
@@ -40,6 +41,7 @@ async function begin({ isAgain } = {}) {
     stopTask();
     if (command === 'why') bench.took = Date.now() - began;
     drawLong(command, answers, options, input);
+    bench.told = command === 'run' ? null : asks;
     if (bench.answer.status === Tso.STATUS.refused) focusRefusal();
     else if (command !== 'run' && !saidInBrief()) focusAnswer();
   } catch (fault) {
@@ -103,11 +105,10 @@ function showOutcomes(answer, beside, test) {
   const outcomes = readOutcomes(answer.text), sequential = beside?.status === Tso.STATUS.good ? readOutcomes(beside.text) : null;
   showAnswer(answer);
   foldReport(answer);
-  const full = outcomes.depth === 32 ? 'Whatever the depth of your run: here buffers hold 32 stores, so they are never full.' : '';
-  const fine = [html('span', { class: 'fine' }, ` ${full} ${sequential ? besideSentence(outcomes, sequential) : ''}`)];
+  const fine = sequential ? [html('span', { class: 'fine' }, ` ${besideSentence(outcomes, sequential)}`)] : [];
   const said = html('p', { role: 'status' }, ...judgedOutcomes(outcomes, test), html('strong', {}, observationSentence(outcomes, test)), ...fine);
   const sheetOfAll = statesSheet(outcomes, sequential, truthsOf(outcomes, test));
-  byId('states').replaceChildren(answerTitle('All outcomes'), said, ...outcomesInTerms(outcomes, sequential), ...sheetOfAll);
+  byId('states').replaceChildren(answerTitle('All outcomes'), said, ...sheetOfAll, ...outcomesInTerms(outcomes, sequential));
 }
 
 /** Notes whether all outcomes of TSO say that the task can't be done, and judges what the reader of an exercise had said. */

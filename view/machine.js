@@ -35,11 +35,11 @@ function usedRegisters({ programs, proposition, start }, core) {
   return REGISTERS.filter(name => new RegExp(`\\b${name}\\b`).test(code) || asked.includes(name) || start.cores[core].registers[name] !== 0);
 }
 
-/** The registers of these names: those that a step changed stand out, and those that none has written look faint. */
-function registerItems(now, before, written, used) {
+/** The registers of these names: those that the step wrote (`just`) stand out, and those that none has written look faint. */
+function registerItems(now, before, written, used, just) {
   if (used.length === 0) return [html('li', { class: 'faint' }, 'none used')];
   return used.map(name => html('li', {
-    ...marked(written.includes(name) ? 'word written' : 'word plain', now[name] !== before[name]),
+    ...marked(written.includes(name) ? 'word written' : 'word plain', just.includes(name)),
     title: written.includes(name) ? `An instruction wrote ${name}.` : `No instruction has written ${name} yet.`,
   }, `${name}=${now[name]}`));
 }
@@ -145,7 +145,7 @@ class CorePanel {
     const key = JSON.stringify([core, old, bus, changes, hasEnded, isLast, supply]), isBuffer = supply?.from === 'buffer';
     if (key === this.key && !this.hasOffered) return;
     this.key = key;
-    this.registers.show(core.registers, old.registers, this.program.slice(0, core.place).flatMap(writtenBy), this.used);
+    this.registers.show(core.registers, old.registers, this.program.slice(0, core.place).flatMap(writtenBy), this.used, core.place === old.place ? [] : writtenBy(this.program[old.place]));
     this.buffer.show(core.buffer, old.buffer, isBuffer ? supply : null);
     this.lines.show(core.lines, changes, bus?.state?.length > 1 ? { line: bus.line, state: bus.state } : null, isBuffer ? null : supply);
     this.showButtons(core, bus, hasEnded);
@@ -245,7 +245,7 @@ class MachinePanel {
   /** Shows the machine after so many steps; where caches aren't shown (`isPlain`), as one that has none. */
   show(history, count, isPlain) {
     this.history = history;
-    const title = drive.histories.length > 2 ? history.options.protocol.toUpperCase() : machineTitle(history.options);
+    const title = drive.histories.length > 2 ? history.options.protocol.toUpperCase() + asFirst(history, count) : machineTitle(history.options);
     putText(this.name, isPlain ? `The machine, with ${plainMachineName(history.options)}` : title);
     const last = count <= history.steps.length ? history.steps[count - 1] : undefined;
     const now = history.machineAfter(count), before = last ? history.machineAfter(count - 1) : now;
@@ -256,11 +256,12 @@ class MachinePanel {
       bus: now.bus?.core === core ? now.bus : null, changes: changes.filter(change => change.core === core), hasEnded,
       isLast: last !== undefined && coreOfChoice(last.choice) === core,
     }));
-    if (!isPlain) putText(this.tally, tallyText(history.steps, count));
+    if (!isPlain) putText(this.tally, tallyText(history.steps, count).replace(/(\d) /g, '$1\u00a0'));
     this.bus.show(now.bus, last && { transaction: last.transaction, flush: last.flush, write_back: last.write_back }, suppliedBy('bus'));
     const wordsOf = ({ memory, seen }) => ({ memory: isPlain ? seen : memory, seen });
     this.memory.show(wordsOf(now), wordsOf(before), suppliedBy('memory'));
-    putText(this.said, count > history.steps.length ? 'Its test had ended before this choice, which is left over.' : last ? stepSentences(last, before, history.programs, isPlain).join(' ') : '');
+    this.sentences = count > history.steps.length ? ['Its test had ended before this choice, which is left over.'] : last ? stepSentences(last, before, history.programs, isPlain) : [];
+    putText(this.said, this.sentences.join(' '));
   }
 
   offerStall(word) {

@@ -4,7 +4,7 @@
 
 const MEANINGS = {
   Program: 'The instructions of this core, from top to bottom. The marked one is next: step does it.',
-  Registers: 'Words that belong to this core alone: a load puts what it reads there. Those that the test uses are shown.',
+  Registers: 'Words that belong to this core alone: a load puts what it reads there.',
   'Store buffer': 'A queue of stores that this core has made and memory has not seen. Only this core sees them there. The oldest, at the left, drains first.',
   Cache: 'Copies of lines of memory, each in a state. A store can be written only while this core has the only copy.',
   Bus: 'All caches are on one bus: by it they ask for lines, and see what others ask for.',
@@ -13,12 +13,16 @@ const MEANINGS = {
   order: 'The order in which memory sees loads, stores and fences of all cores: from top to bottom.',
   Under: 'TSO alone: such an end needs store buffers. Sequential consistency has none like it.',
   Condition: 'Whether the proposition of the test’s condition is true of this end.',
+  exists: 'Asks whether a run ends so.',
+  '~exists': 'Claims that no run ends so.',
+  forall: 'Claims that each run ends so.',
+  '/\\': 'And.',
+  '\\/': 'Or.',
   seed: 'A number from which choices are drawn at random. The same seed draws the same choices.',
   exercise: 'One file of the whole page, with this test and your question: no choices, no list. All outcomes and why are there after an answer.',
-  lecture: 'Large type, and only what is taught. A clicker’s keys, PageDown and PageUp, step lessons, runs, reasons, and a list of tests.',
+  lecture: 'Large type, and only what is taught. PageDown and PageUp, a clicker’s keys, step all of it.',
   beside: 'Another machine that makes the same choices, so that one sees what differs.',
-  depth: 'How many stores wait at most in a core’s store buffer. With 0 there is none: that is sequential consistency. ' +
-    'Each other number is within TSO; what TSO allows in all is at Find all outcomes.',
+  depth: 'How many stores wait at most in a core’s store buffer. With 0 there is none: that is sequential consistency.',
   protocol: 'The rules by which caches keep their copies in step: MSI, MESI, MOESI or MOSI, after the states that a line has.',
   bus: 'Atomic: each access has the bus for its own step. Split: a core asks first, and completes the access in a later step.',
   sets: 'Into so many sets the lines of a cache are divided.',
@@ -61,6 +65,12 @@ const kindOfInstruction = text => INSTRUCTIONS.find(([, form]) => form.test(text
 function withMeaning(attributes, name, shown, tag = 'span') {
   const meaning = MEANINGS[name];
   return html(tag, meaning === undefined ? attributes : { ...attributes, tabindex: 0, role: 'note', 'data-means': name, 'aria-label': `${shown}. ${meaning}` }, shown);
+}
+
+/** Puts a sentence into an element, where it isn't that already: a condition's signs have their meanings. */
+function putCondition(element, sentence) {
+  const parts = sentence.split(/(~?exists(?= \()|forall(?= \()|\/\\|\\\/)/);
+  if (element.textContent !== sentence) element.replaceChildren(...parts.map((part, at) => (at % 2 ? withMeaning({}, part, part) : part)));
 }
 
 /** Where the pointer was last. A browser also tells that it came to something when the page changed below it and it itself rested. */

@@ -16,11 +16,11 @@ function observationSentence({ states, observation, depth }, test) {
 }
 
 /** The same in the words of the field, for both models; nothing where the test has no condition. */
-function outcomesInTerms({ observation, verdict }, sequential) {
+function outcomesInTerms({ observation, verdict, depth }, sequential) {
   if (observation === null) return [];
   const { word, true: yes, false: no } = observation;
   const other = sequential ? ` Under sequential consistency the observation is ${sequential.observation.word}.` : '';
-  return [inTerms(`Observation: ${word} (true in ${yes}, false in ${no}).${verdictWords(verdict)}${other}`)];
+  return [inTerms(`Observation: ${word} (true in ${yes}, false in ${no}).${verdictWords(verdict)}${other}${depth === 32 ? ' A store buffer has room for 32 stores here, whatever yours has.' : ''}`)];
 }
 
 /** How many of the states are as the condition says. Where it asks whether any is, the sentence begins with yes or no. */
@@ -95,12 +95,21 @@ function foldedChoices(choices, before = '') {
 
 const lastWord = ({ registers, memory }, name) => memory.get(name) ?? registers[name[0]]?.get(name.slice(2)); // of a run
 
+/** The choices that are told for each state: no load passes a store, where sequential consistency has it too, and each that can, where it is asked for. */
+function waysTo({ states, depth }, sequential, truths) {
+  const { programs } = readTest(inputOf('outcomes')), late = lateRun(programs, depth)?.choices, few = states.length > MOST_RUN ? [] : sequential?.states;
+  const calm = new Map(few?.map(({ values, choices }) => [valuesText(values), drainedAtOnce(programs, choices)]));
+  return states.map(({ values, choices }, at) => [calm.get(valuesText(values)), truths?.[at] && late].find(each => {
+    const run = each && runOf(each, 'tso');
+    return run && Object.keys(values).every(name => lastWord(run, name) === values[name]);
+  }) ?? choices);
+}
+
 /** A row for each state; its button has the choices, which `loadChoices` takes. Beside them, where it is known, whether sequential
  * consistency has the state too, and whether the condition is true of it. */
 function outcomesTable(outcomes, sequential, truths) {
   const { states, depth } = outcomes, names = Object.keys(states[0].values), isNew = sequential && newStates(outcomes, sequential);
-  const late = lateRun(readTest(inputOf('outcomes')).programs, depth), isLate = values => late && names.every(name => lastWord(late.run, name) === values[name]);
-  const ways = states.map(({ values, choices }, at) => (truths?.[at] && isLate(values) ? late.choices : choices));
+  const ways = waysTo(outcomes, sequential, truths);
   const titles = [...names, ...(sequential ? ['Under'] : []), ...(truths ? ['Condition'] : []), 'Choices that lead there', ''];
   const sheet = tableOf('Final states', titles, states.map(({ values }, at) => html('tr', truths?.[at] ? { class: 'met' } : {},
     ...names.map(name => html('td', { class: 'number', 'data-name': name }, String(values[name]))),

@@ -66,7 +66,7 @@ function takeFromLibrary(file) {
     ask(command, { isAgain: true });
     return;
   }
-  leaveOutStalls();
+  if (/\bseed\b/.test(choicesText())) leaveOutStalls();
   fromExample.words = drive.words;
   if (drive.isOn) showDrive(); // whose the choices are
   byId('test-part').open = byId('about').open = false;
@@ -74,14 +74,14 @@ function takeFromLibrary(file) {
   focusMachine();
 }
 
-/** Of choices that a text draws from a seed: leaves out those that stall and change nothing. What is shown is the same run. */
+/** Of choices that are drawn from a seed: leaves out those to come that stall and change nothing. What is shown is the same run. */
 function leaveOutStalls() {
-  if (!drive.isOn || !/\bseed\b/.test(choicesText())) return;
-  const { options, steps } = firstHistory(), made = steps.filter(({ outcome }) => outcome !== 'stalled').map(({ choice }) => choice);
+  if (!drive.isOn) return;
+  const { options, steps } = firstHistory(), made = steps.filter(({ outcome }, at) => at < drive.count || outcome !== 'stalled').map(({ choice }) => choice);
   if (made.length === steps.length || options.bus !== 'atomic') return;
   const { history } = historyOf(options, inputOfWords(made));
   if (!history) return;
-  beginDrive(history, { test: drive.test, given: null }, 0);
+  beginDrive(history, { test: drive.test, given: null }, drive.count);
   putWords();
 }
 
@@ -176,6 +176,7 @@ byId('find-outcomes').addEventListener('click', findOutcomes);
 byId('ask-why').addEventListener('click', askWhy);
 byId('copy-link').addEventListener('click', copyLink);
 byId('remove-choices').addEventListener('click', removeChoices);
+byId('write-so').addEventListener('click', writeRepairs);
 byId('search').addEventListener('input', showLibrary);
 byId('comparison').addEventListener('toggle', () => bench.tso && compareNow());
 for (const scrolled of [window, byId('frame')]) scrolled.addEventListener('scroll', () => (shown.run || drive.isOn) && placeNames(), { passive: true });

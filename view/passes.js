@@ -12,6 +12,12 @@ function lateRun(programs, depth) {
   return run?.choices.get('stalled') + run?.choices.get('unused') === 0 ? { run, choices } : null;
 }
 
+/** Choices of a run without store buffers, with a drain right after each store. */
+function drainedAtOnce(programs, choices) {
+  const places = programs.map(() => 0), isStore = core => /^MOV\s+\[/i.test(programs[core]?.[places[core]++]);
+  return choices.split(' ').map(word => (isStore(coreOfChoice(word)) ? `${word} ${coreOfChoice(word)}d` : word)).join(' ');
+}
+
 class PassList {
   constructor(element) {
     Object.assign(this, { element, rows: [], none: html('li', {}), hasGrown: false });

@@ -54,8 +54,8 @@ function noteOf(entry, letters) {
   const { passed } = entry;
   if (passed.length === 0) return nameOf(entry);
   const isOwn = passed.includes(entry.source);
-  const passes = ` passed ${passed.length === 1 ? passed[0].location : passed.length}`;
-  const notes = isOwn ? [' own store', ' own'] : [passes, ' passed'];
+  const [{ location }] = passed, passes = passed.length > 1 ? [` passed ${passed.length} stores`] : [` passed its store to ${location}`, ` passed its ${location}`];
+  const notes = isOwn ? [' own store', ' own'] : [...passes, ' passed'];
   return nameOf(entry) + (notes.find(note => nameOf(entry).length + note.length <= letters) ?? '');
 }
 
@@ -79,18 +79,24 @@ function drawGrid(run, layout, entries) {
   return svg('g', {}, ...lanes, ...rows);
 }
 
-/** The bar of a store, under its place: dashed where it may have waited, full where it did; and its way to its entry. */
+/** Over a store's bar: its name, or its place beside other bars. */
+function nameOverBar({ tracks, trackOf }, store, top) {
+  const isAlone = tracks < 2;
+  return textAt({ class: 'faint', x: trackOf(store) + 2 * isAlone, y: top + 11 }, 10, isAlone ? nameOf(store) : String(store.place));
+}
+
+/** The bar of a store, under its name: dashed where it may have waited, full where it did; and its way to its entry. */
 function drawWait(run, layout, store) {
   const { earliest, latest } = store.wait;
   const { top, pitch } = layout;
   const x = layout.trackOf(store), wide = Math.min(7, pitch * 0.7), head = pitch === TRACK.most ? 13 : 2;
   const bar = (kind, from, to) => svg('rect', { class: kind, x: x - wide / 2, y: from, width: wide, height: to - from });
-  const leaves = top(store.index) + (earliest < store.index ? 0 : head); // where there is no bar it begins under the number
+  const leaves = top(store.index) + (earliest < store.index ? 0 : head); // where there is no bar it begins under the name
   const way = `M${x} ${leaves}V${layout.middle(store)}H${layout.boxOf(store).x}`;
   const parts = [svg('title', {}, sentenceOf(run, store)), svg('path', { class: 'leaving', d: way })];
   if (earliest < latest) parts.push(bar('possible', top(earliest) + head, top(latest)));
   if (latest < store.index) parts.push(bar('certain', top(latest) + (earliest < latest ? 0 : head), top(store.index)));
-  if (head > 2) parts.push(textAt({ class: 'faint', x, y: top(earliest) + 11 }, 10, String(store.place)));
+  if (head > 2) parts.push(nameOverBar(layout, store, top(earliest)));
   return svg('g', { class: 'wait', 'data-earliest': earliest, 'data-latest': latest, 'data-seen': store.index }, ...parts);
 }
 

@@ -3,23 +3,23 @@
 // A list of tests for a lecture: each as its address tells it, with a way to the next and to the one before. It is saved with the page.
 
 /** The number of the test of the list that was opened or added last, -1 before one is; of which address the note beside the buttons is,
- * null where there is none; whether the bar names that test, since what is shown is of it, and as changed; whether one came to it from the next
- * one; and the addresses of entries left changed. */
-const playlist = { at: -1, said: null, isEntry: false, isChanged: false, isFromBehind: false, left: new WeakMap() };
+ * null where there is none; what the bar says; whether one came from the next test; and the addresses of entries left changed. */
+const playlist = { at: -1, said: null, where: '', isFromBehind: false, left: new WeakMap() };
 
 const LIST_END = 'The end of the list';
 const MOST_NAME = 80; // characters of an entry's name
 const MOST_LISTED = 400000; // characters of a list that the browser keeps
 
-/** What an entry is, beside its test's name: what is asked, or how many choices are known, and how many machines stand abreast. */
+const TITLES = { SB: 'Store buffering', SBF: 'Store buffering with fences', MP: 'Message passing', LB: 'Load buffering', 'false-sharing': 'False sharing' };
+
+/** What an entry is, beside its test's name: what is asked, or whether choices are known, and how many machines stand abreast. */
 function entryKind() {
-  const command = currentCommand(), known = drive.words.length;
+  const command = currentCommand(), run = drive.words.length === 0 ? 'the test' : 'the run';
   if (command !== 'run') return command;
-  const run = known === 0 ? 'no choices yet' : `run, ${known} ${known === 1 ? 'choice' : 'choices'}`;
   return drive.beside === null ? run : `${run}, ${drive.beside === ABREAST ? 'four protocols' : 'two machines'}`;
 }
 
-const entryNow = () => ({ name: `${testName()}: ${entryKind()}`, address: currentAddress() });
+const entryNow = () => ({ name: `${TITLES[testName()] ?? testName()}: ${entryKind()}`, address: currentAddress() });
 
 /** Adds what is shown to the list, if it isn't there, and says beside the button which it is. */
 function addToList() {
@@ -45,12 +45,12 @@ function sayListed(sentence) {
   for (const place of document.querySelectorAll('.listed')) place.replaceChildren(...(sentence === '' ? [] : [sentence, ' ', toList()]));
 }
 
-/** Whether what is shown is of the test and the command of the entry that was opened or added last. */
-function isOfEntry() {
+/** Whether what is shown is of the test, and of the command too, of the entry that was opened or added last. */
+function isOfEntry(isOfCommand = true) {
   const entry = taught.list[playlist.at];
   if (entry === undefined) return false;
   const told = new URLSearchParams(entry.address);
-  return told.get('test') === byId('test').value && commandOf(told.get('command')) === currentCommand();
+  return told.get('test') === byId('test').value && (!isOfCommand || commandOf(told.get('command')) === currentCommand());
 }
 
 const withoutPlace = address => address.replace(/&at=\d+/, ''); // in its run
@@ -58,15 +58,18 @@ const withoutPlace = address => address.replace(/&at=\d+/, ''); // in its run
 /** Whether what is shown is that entry, changed. In a lecture none is. */
 const isChangedEntry = () => !isLecture() && isOfEntry() && withoutPlace(taught.list[playlist.at].address) !== withoutPlace(currentAddress());
 
+/** The same, but of exercises. */
+const isToUpdate = () => isChangedEntry() && !isExercise();
+
 /** Keeps what is said of the list with what is shown: notes of something else go, and an entry that was changed can be put anew. */
 function followShown() {
-  const isEntry = isOfEntry(), isChanged = isChangedEntry();
+  const isChanged = isToUpdate();
   if (playlist.said !== null && playlist.said !== currentAddress()) sayListed('');
   for (const button of document.querySelectorAll('[data-update-list]')) {
     button.hidden = !isChanged;
     putText(button, `Update ${playlist.at + 1} of ${taught.list.length}`);
   }
-  if (playlist.isEntry !== isEntry || playlist.isChanged !== isChanged) drawBar(isEntry, isChanged);
+  if (playlist.where !== whereInList()) drawBar();
 }
 
 /** What the browser keeps with the address, so that it is there again after a reload: the list, which of it is shown, and whether in a lecture. */
@@ -84,7 +87,7 @@ function takeKeptList({ list, listed, isLecture: wasLecture }) {
 }
 
 function dropFromList(at) {
-  taught.list = taught.list.filter((_, each) => each !== at);
+  taught.list = taught.list.toSpliced(at, 1);
   if (playlist.at >= at) playlist.at--;
   drawList();
 }
@@ -92,7 +95,7 @@ function dropFromList(at) {
 /** Puts a test of the list before the one that stands before it. */
 function raiseInList(at) {
   const { list } = taught;
-  taught.list = [...list.slice(0, at - 1), list[at], list[at - 1], ...list.slice(at + 1)];
+  taught.list = list.toSpliced(at - 1, 2, list[at], list[at - 1]);
   if (playlist.at === at) playlist.at--;
   else if (playlist.at === at - 1) playlist.at++;
   drawList();
@@ -121,15 +124,24 @@ function showFromBehind() {
 
 const listButton = (attributes, text, isOff = false) => html('button', { type: 'button', ...attributes, ...(isOff ? { disabled: '' } : {}) }, text);
 
-/** The bar over the machine: which entry is shown, if one is, and the ways to the one before and the next. */
-function drawBar(isEntry, isChanged) {
+/** Which entry is shown, or the test of which. */
+function whereInList() {
+  const { list } = taught, { at } = playlist, place = `${at + 1} of ${list.length}`, all = `${list.length} ${list.length === 1 ? 'entry' : 'entries'}`;
+  if (at < 0) return all;
+  if (isOfEntry()) return `${place}${isToUpdate() ? ', changed' : ''}: ${list[at].name}`;
+  return isOfEntry(false) ? `${place}: ${plainName(list[at])}, ${currentCommand()}` : `Not in the list of ${all}`;
+}
+
+/** An entry's name without what it shows. */
+const plainName = ({ name }) => name.split(':')[0];
+
+/** The bar over the machine: which entry is shown, if one is, and the ways to the one before and the next. A lecture doesn't name what comes. */
+function drawBar() {
   const { list } = taught, { at } = playlist;
-  const all = `${list.length} ${list.length === 1 ? 'entry' : 'entries'}`;
-  const next = at + 1 < list.length ? `Next: ${list[at + 1].name} ▶` : at > 0 ? LIST_END : 'Next ▶', isOut = at >= 0 && !isEntry && at + 1 >= list.length;
-  const where = at < 0 ? all : isEntry ? `${at + 1} of ${list.length}${isChanged ? ', changed' : ''}: ${list[at].name}` : `Not in the list of ${all}`;
-  Object.assign(playlist, { isEntry, isChanged });
-  byId('list-bar').replaceChildren(listButton({ 'data-listed': at - 1 }, '◀ Previous', at <= 0), html('span', {}, where),
-    ...(isChanged ? [listButton({ 'data-update-list': '' }, `Update ${at + 1} of ${list.length}`)] : []), ...(isOut ? [] : [listButton({ 'data-listed': at + 1 }, next, at >= list.length - 1)]));
+  const next = at + 1 < list.length ? `Next${isLecture() ? '' : `: ${list[at + 1].name}`} ▶` : at > 0 ? LIST_END : 'Next ▶', isOut = at >= 0 && !isOfEntry() && at + 1 >= list.length;
+  playlist.where = whereInList();
+  byId('list-bar').replaceChildren(listButton({ 'data-listed': at - 1 }, '◀ Previous', at <= 0), html('span', {}, playlist.where),
+    ...(isToUpdate() ? [listButton({ 'data-update-list': '' }, `Update ${at + 1} of ${list.length}`)] : []), ...(isOut ? [] : [listButton({ 'data-listed': at + 1 }, next, at >= list.length - 1)]));
 }
 
 function drawList() {
@@ -137,7 +149,8 @@ function drawList() {
   sayListed('');
   const { list } = taught;
   byId('list-bar').hidden = byId('list-part').hidden = list.length === 0;
-  drawBar(isOfEntry(), isChangedEntry());
+  byId('save-exercises').hidden = list.length < 2;
+  drawBar();
   byId('list').replaceChildren(...list.map(({ name }, each) => html('li', {}, listButton({ 'data-listed': each, class: 'quiet' }, name),
     ' ', listButton({ 'data-raised': each, class: 'quiet', 'aria-label': `Move ${name} up` }, 'up', each === 0),
     ' ', listButton({ 'data-raised': each + 1, class: 'quiet', 'aria-label': `Move ${name} down` }, 'down', each === list.length - 1),

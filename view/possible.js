@@ -6,8 +6,8 @@ const POSSIBLE_CASES = 3000; // that may be told apart: so many take well under 
 const ASK_AFTER = 250; // milliseconds without another test
 
 /** What is known of a test (`test` is its text): true where what it asks for can be, false where it can't, null where that isn't known;
- * whether the answer is still to come; and the test of which a sheet said that it can't be (`refuted`). */
-const possible = { test: null, can: null, isAsked: false, timer: null, task: null, refuted: null };
+ * whether the answer is still to come; and the test of which a sheet said that it can't be (`refuted`), and that for which why found a run (`found`). */
+const possible = { test: null, can: null, isAsked: false, timer: null, task: null, refuted: null, found: null };
 
 /** Whether an answer said that what the test that is driven asks for can't be; an exercise that isn't answered keeps it to itself. */
 const isRefuted = () => possible.refuted === drive.test && !isUnanswered();

@@ -11,7 +11,7 @@ const RELATIONS = {
   unkept: {
     label: 'po, not kept',
     short: 'po ✗',
-    means: 'Program order from a store to a later load of another location: TSO doesn’t keep it. If it did, the arrows would close a cycle.',
+    means: 'Program order from a store to a later load of another location: TSO doesn’t keep it.',
     says: (from, to) => `${from} stands before ${to} in the program of its core, and TSO doesn’t keep that order.`,
   },
   rf: {
@@ -62,6 +62,12 @@ function meaningOf(name, edges) {
 
 /** The letters that stand at a relation's arrows, in a picture of narrow lanes fewer. */
 const letterOf = (name, isNarrow = false) => (isNarrow && relationNamed(name).short) || (relationNamed(name).label ?? name);
+
+/** An arrow's name: a to z, then aa and so on. */
+const arrowName = at => (at < 26 ? '' : arrowName(Math.floor(at / 26) - 1)) + String.fromCharCode(97 + at % 26);
+
+/** The same behind the arrow's name. */
+const lettersAt = (edges, at, isNarrow) => `${arrowName(at)} ${letterOf(edges[at].relation, isNarrow)}`;
 
 const relationNamed = name => (Object.hasOwn(RELATIONS, name) ? RELATIONS[name] : UNKNOWN_RELATION);
 const edgeSentence = ({ from, relation, to }) => relationNamed(relation).says(from, to);

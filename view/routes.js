@@ -3,30 +3,40 @@
 // The ways of edges between the boxes of events: beside the boxes of a core, in the gutters between the cores, and where cores lie between
 // in channels under the rows. So no way crosses a box or a word. All measures are pixels.
 
-const ROUTES = { track: 11, bow: 0.8, inset: 14, turn: 8, channel: 24, sample: 4, samples: 48, chip: 18, letter: 8, around: 6 };
+const ROUTES = { apart: 14, bow: 0.8, inset: 10, turn: 8, channel: 24, sample: 4, samples: 48, chip: 18, letter: 8, around: 6 };
 
-const SPREAD = 4; // by how much at most ways that touch one side of a box lie above or below its middle
+/** Of each key how many are equal to it (`of`), and its place among these by rank (`number`). */
+const amongEquals = (keys, ranks = keys) => keys.map((key, at) => {
+  const equals = [...keys.keys()].filter(each => keys[each] === key);
+  return { of: equals.length, number: equals.filter(each => ranks[each] < ranks[at] || (ranks[each] === ranks[at] && each < at)).length };
+});
+
+/** Which part of a width each takes that it shares with those of its key. */
+const shares = keys => amongEquals(keys).map(({ number, of }) => (number + 1) / (of + 1));
+
+/** The ends of edges, start and end in turn: the event, and which of those at this side it is. */
+function endsOf(edges) {
+  const ends = edges.flatMap(({ from, to }) => [[from, to], [to, from]]).map(pair => pair.map(eventOf)), names = ends.map(([own]) => nameOfEvent(own.text));
+  const sides = ends.map(([own, other], at) => `${names[at]} ${Math.sign(other.core - own.core)}`);
+  return amongEquals(sides, ends.map(([, other]) => other.place)).map((among, at) => ({ name: names[at], ...among }));
+}
+
+/** How high an event's box is, so that the edges at it lie apart. */
+function heightsOfBoxes(edges) {
+  const ends = endsOf(edges);
+  return ({ text }) => EVENTS.box + ROUTES.apart * Math.max(0, ...ends.map(({ name, of }) => (name === nameOfEvent(text) ? of - 2 : 0)));
+}
 
 /** Where ways touch boxes: for each edge the heights of its start and its end. Those that touch one side of a box lie apart there. */
 function portsOf(layout, edges) {
-  const touched = new Map(), at = edges.map(({ from, to }) => [from, to].map((text, end) => {
-    const [box, other] = [text, end === 0 ? to : from].map(each => layout.boxes.get(nameOfEvent(each))), key = `${nameOfEvent(text)} ${Math.sign(other.event.core - box.event.core)}`;
-    touched.set(key, (touched.get(key) ?? 0) + 1);
-    return { box, key, number: touched.get(key) - 1 };
-  }));
-  const heightOf = ({ box, key, number }) => box.y + box.height / 2 + (touched.get(key) === 1 ? 0 : SPREAD * (2 * number / (touched.get(key) - 1) - 1));
-  return at.map(ends => ends.map(heightOf));
+  const heights = endsOf(edges).map(({ name, number, of }) => layout.boxes.get(name).y + layout.boxes.get(name).height / 2 + ROUTES.apart * (number - (of - 1) / 2));
+  return edges.map((_, at) => heights.slice(2 * at, 2 * at + 2));
 }
 
 /** How many edges go from one event to another with cores between, by the row of the channel that they take: the upper one of their rows. */
 function farEdges(edges) {
   const far = edges.map(edge => [eventOf(edge.from), eventOf(edge.to)]).map(([from, to]) => (Math.abs(from.core - to.core) > 1 ? Math.min(from.place, to.place) : null));
-  const order = new Map();
-  return far.map(row => {
-    if (row === null) return null;
-    order.set(row, (order.get(row) ?? 0) + 1);
-    return { row, at: order.get(row) - 1 };
-  });
+  return amongEquals(far).map(({ number }, at) => (far[at] === null ? null : { row: far[at], at: number }));
 }
 
 /** How many channels stand under each of so many rows. */
@@ -58,15 +68,6 @@ function linesWay(corners) {
   return { d: `M${corners[0].join(' ')}${turns.join('')}L${corners.at(-1).join(' ')}`, points: alongLines(corners) };
 }
 
-/** Numbers things by their keys: of each how many of its key came before it. */
-function numbered(keys) {
-  const counts = new Map();
-  return keys.map(key => {
-    counts.set(key, (counts.get(key) ?? 0) + 1);
-    return counts.get(key) - 1;
-  });
-}
-
 /** Beside the boxes of one core: the first of its edges on the side of its lane that is nearer to the picture's edge, the next on the other. */
 function wayOfOneCore(layout, start, end, [y1, y2], number) {
   const isNear = number % 2 === 0, isLeft = (2 * start.event.core < layout.cores - 1 || layout.cores === 1) === isNear, out = isLeft ? -1 : 1;
@@ -74,15 +75,15 @@ function wayOfOneCore(layout, start, end, [y1, y2], number) {
   return curveWay([[x1, y1], [x1 + bow, y1], [x2 + bow, y2], [x2, y2]]);
 }
 
-/** Through the gutter between two cores that stand side by side. */
-function wayThroughGutter(start, end, [y1, y2], isRight) {
-  const x1 = isRight ? start.x + start.width : start.x, x2 = isRight ? end.x - 3 : end.x + end.width + 3, bend = (x2 - x1) / 2;
-  return curveWay([[x1, y1], [x1 + bend, y1], [x2 - bend, y2], [x2, y2]]);
+/** Through the gutter between two cores that stand side by side, in such a part of its width. */
+function wayThroughGutter(start, end, [y1, y2], isRight, part) {
+  const x1 = isRight ? start.x + start.width : start.x, x2 = isRight ? end.x - 3 : end.x + end.width + 3, x = x1 + (x2 - x1) * (isRight ? part : 1 - part);
+  return curveWay([[x1, y1], [x, y1], [x, y2], [x2, y2]]);
 }
 
 /** Through the gutters beside both boxes and a channel under a row, past the cores between. */
 function wayThroughChannel(layout, start, end, [y1, y2], { isRight, row, at, tracks }) {
-  const out = isRight ? 1 : -1, [inset, endInset] = tracks.map(track => ROUTES.inset + (track * ROUTES.track) % (layout.side - ROUTES.inset));
+  const out = isRight ? 1 : -1, [inset, endInset] = tracks.map((part, end) => ROUTES.inset + (isRight === (end === 0) ? part : 1 - part) * 2 * (layout.side - ROUTES.inset));
   const x1 = isRight ? start.x + start.width : start.x, x2 = isRight ? end.x - 3 : end.x + end.width + 3;
   const y = layout.tops[row + 1] - layout.channels[row] * ROUTES.channel + (at + 0.5) * ROUTES.channel - ROUTES.around;
   const [near, far] = [x1 + out * inset, x2 - out * endInset];
@@ -92,12 +93,13 @@ function wayThroughChannel(layout, start, end, [y1, y2], { isRight, row, at, tra
 /** The way of each edge: its path, and points along it. */
 function edgeWays(layout, edges) {
   const ports = portsOf(layout, edges), [froms, tos] = ['from', 'to'].map(end => edges.map(edge => eventOf(edge[end]).core));
-  const ofCore = numbered(edges.map((_, at) => (froms[at] === tos[at] ? froms[at] : `other ${at}`)));
-  const tracks = numbered(edges.flatMap((_, at) => (layout.far[at] === null ? ['', ''] : [[froms[at], tos[at]], [tos[at], froms[at]]].map(([own, other]) => `${own} ${own < other}`))));
+  const ofCore = amongEquals(edges.map((_, at) => (froms[at] === tos[at] ? froms[at] : `other ${at}`)));
+  const tracks = shares(edges.flatMap((_, at) => (layout.far[at] === null ? ['', ''] : froms[at] < tos[at] ? [froms[at], tos[at] - 1] : [froms[at] - 1, tos[at]])));
+  const parts = shares(edges.map((_, at) => (layout.far[at] === null && froms[at] !== tos[at] ? Math.min(froms[at], tos[at]) : '')));
   return edges.map(({ from, to }, at) => {
     const [start, end] = [from, to].map(text => layout.boxes.get(nameOfEvent(text))), isRight = start.event.core < end.event.core;
-    if (start.event.core === end.event.core) return wayOfOneCore(layout, start, end, ports[at], ofCore[at]);
-    if (layout.far[at] === null) return wayThroughGutter(start, end, ports[at], isRight);
+    if (start.event.core === end.event.core) return wayOfOneCore(layout, start, end, ports[at], ofCore[at].number);
+    if (layout.far[at] === null) return wayThroughGutter(start, end, ports[at], isRight, parts[at]);
     return wayThroughChannel(layout, start, end, ports[at], { ...layout.far[at], isRight, tracks: tracks.slice(2 * at, 2 * at + 2) });
   });
 }
@@ -121,21 +123,21 @@ function chipAt(layout, [x, y], letters) {
 
 /** Of a way's points those that a chip may stand at: near its start first, since ways cross in the middle. */
 function chipPoints(points) {
-  const parts = [0.24, 0.3, 0.18, 0.36, 0.42, 0.5, 0.58, 0.66, 0.74, 0.82, 0.12];
+  const parts = [0.24, 0.3, 0.18, 0.36, 0.42, 0.5, 0.58, 0.66, 0.74, 0.82, 0.12, 0.27, 0.21, 0.33, 0.39, 0.46, 0.54, 0.62, 0.7, 0.78, 0.86, 0.9];
   return parts.map(part => points[Math.round(part * (points.length - 1))]);
 }
 
-/** Where the chip of each edge stands, and whether none covers anything. */
+/** Where the chip of each edge stands, and how much they cover. */
 function chipsOf(layout, edges, ways) {
   const chips = [];
-  let isClear = true;
-  edges.forEach(({ relation }, at) => {
+  let covered = 0;
+  edges.forEach((_, at) => {
     const others = ways.filter((_, other) => other !== at).flatMap(({ points }) => points);
     const cost = chip => 100 * [...layout.words, ...layout.boxes.values()].filter(part => overlap(chip, part)).length + 50 * chips.filter(other => overlap(chip, other)).length + others.filter(point => holds(chip, point)).length;
-    const found = chipPoints(ways[at].points).map(point => chipAt(layout, point, letterOf(relation, layout.isNarrow).length)).map(chip => ({ chip, cost: cost(chip) }));
+    const found = chipPoints(ways[at].points).map(point => chipAt(layout, point, lettersAt(edges, at, layout.isNarrow).length)).map(chip => ({ chip, cost: cost(chip) }));
     const { chip, cost: least } = found.reduce((best, each) => (each.cost < best.cost ? each : best));
-    isClear &&= least === 0;
+    covered += least;
     chips.push(chip);
   });
-  return { chips, isClear };
+  return { chips, cost: covered };
 }

@@ -15,13 +15,13 @@ function fileName(name, ending) {
   return (plain === '' ? 'test' : plain) + ending;
 }
 
-/** Saves a file, and says so. */
-function saveAndSay(name, blob) {
+/** Saves a file, and says so, with `more` about it. */
+function saveAndSay(name, blob, more = '') {
   saveFile(name, blob);
-  sayDone('.page-saved, #report-copied', `Saved as ${name}, where your browser puts downloads.`);
+  sayDone('.page-saved, #report-copied', `Saved as ${name}, where your browser puts downloads.${more}`);
 }
 
-const saveText = (name, text, type = 'text/plain') => saveAndSay(name, new Blob([text], { type }));
+const saveText = (name, text, type = 'text/plain', more = '') => saveAndSay(name, new Blob([text], { type }), more);
 
 /** What a drawing takes from the page's style, and has to bring with it. */
 const STYLED = ['fill', 'stroke', 'stroke-width', 'stroke-dasharray', 'paint-order', 'opacity', 'font-family', 'font-weight', 'font-size', 'text-anchor'];

@@ -63,11 +63,11 @@ function machineSentence({ machine, choices }) {
 function verdictSentence({ condition }, proposition = null) {
   if (condition === null) return 'Condition: the test has none.';
   const { kind, holds } = condition;
-  const outcome = kind === 'exists' ? 'the outcome that is asked for' : 'the outcome that should not exist';
-  const shows = `This run ${holds ? 'shows' : 'doesn\'t show'} ${outcome}.`;
-  const ends = `This run ${holds ? 'ended' : 'didn\'t end'} as every run should.`;
+  const outcome = kind === 'exists' ? 'that is asked for' : 'that should not exist', isOpen = holds === (kind === 'forall');
+  const shows = !holds ? `doesn't show the outcome ${outcome}` : kind === 'exists' ? 'shows that it can be' : `shows the outcome ${outcome}`;
+  const ends = `${holds ? 'ended' : 'didn\'t end'} as every run should`;
   const written = `${kind}${proposition === null ? '' : ` (${proposition})`}`;
-  return `${kind === 'forall' ? ends : shows} This tells nothing about other runs. Condition: ${written}, ${holds} at this end.`;
+  return `This run ${kind === 'forall' ? ends : shows}.${isOpen ? ' This tells nothing about other runs.' : ''} Condition: ${written}, ${holds} at this end.`;
 }
 
 function unfinishedSentence(numbers) {

@@ -57,7 +57,9 @@ const labelText = name => document.querySelector(`label[for=set-${name}]`).textC
 
 /** Shows the settings of a command, and the text that it reads after the test. */
 function showSettings(command) {
-  for (const name of SET_NAMES) settingOf(name).closest('.setting').hidden = !SETTINGS[command].includes(name);
+  const { options } = readSettings(command), isPlain = ['run', 'sweep'].includes(command) && options && !showsCaches([options]);
+  for (const name of SET_NAMES) settingOf(name).closest('.setting').hidden = !SETTINGS[command].includes(name) || (isPlain && SETTINGS_OF_CACHES.includes(name));
+  byId('caches-note').hidden = !isPlain;
   byId('command-said').textContent = ANSWERS_OF[command];
   byId('settings').hidden = SETTINGS[command].length === 0;
   byId('choices-part').hidden = command !== 'run';

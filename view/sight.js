@@ -11,7 +11,7 @@ function keepClear() {
   const above = getComputedStyle(told).position === 'sticky' ? `${told.offsetHeight + CLEAR}px` : '0px';
   style.scrollPaddingTop = isBelow ? above : room;
   style.scrollPaddingBottom = isBelow ? room : '0px';
-  byId('names').style.top = isSticky && !isBelow ? `${bar.offsetHeight}px` : '0px';
+  byId('names').style.top = isSticky && !isBelow ? `${bar.getBoundingClientRect().height / zoomOfPicture()}px` : '0px';
 }
 
 for (const id of ['stepper', 'lesson']) new ResizeObserver(keepClear).observe(byId(id));

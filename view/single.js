@@ -49,14 +49,14 @@ function whyNotSaved() {
   return window.crypto?.subtle ? null : 'The browser makes digests only for pages from https or from files. So this page can\'t be saved from here.';
 }
 
-/** Saves a page under a name, and says so. */
-async function saveWhole(name, makePage) {
+/** Saves a page under a name, and says so, with `more` about it. */
+async function saveWhole(name, makePage, more) {
   const why = whyNotSaved();
   if (why !== null) {
     byId('message').textContent = why;
     return;
   }
-  saveText(name, await makePage(), 'text/html');
+  saveText(name, await makePage(), 'text/html', more);
 }
 
 /** The page with what is shown; with a list of tests it is named by these. */

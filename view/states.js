@@ -54,7 +54,7 @@ function depthNote({ states, depth }) {
   if (options === undefined || options.depth === depth) return [];
   if (depth > 0 && states.length <= MOST_TRIED && states.every(({ choices }) => hasRoom(choices, options.depth))) return [];
   const keeps = depth > 0 ? 'where a run has no room in yours' : 'in place of yours';
-  return [html('p', { class: 'small faint' }, `“Run them” takes store buffers of depth ${depth} ${keeps}, of depth ${options.depth}. You can go back to your own run.`)];
+  return [html('p', { class: 'small faint' }, `“Run them” takes ${plainMachineName({ depth })} ${keeps}, of ${options.depth}. You can go back to your own run.`)];
 }
 
 /** What the names of places and of choices mean, by one of each. */
@@ -76,7 +76,7 @@ function statesSheet(outcomes, sequential, truths) {
   const words = sequential ? [html('p', { class: 'small faint alone-said' }, `${isAlone ? '“TSO alone”: it needs store buffers. ' : ''}SC is sequential consistency: no store buffers.`)] : [];
   const key = html('p', { class: 'small faint key' }, keySaid(Object.keys(outcomes.states[0].values)));
   const programs = html('p', { class: 'programs' }, ...programLines(readTest(inputOf('outcomes')).programs));
-  const sheet = html('div', { class: 'states-sheet' }, programs, html('div', { class: 'states-told' }, ...words, ...(outcomes.states.length > 1 ? [tools] : []), ...depthNote(outcomes), table, more, key));
+  const sheet = html('div', { class: 'states-sheet' }, programs, html('div', { class: 'states-told' }, ...(outcomes.states.length > 1 ? [tools] : []), ...depthNote(outcomes), table, more, ...words, key));
   if (outcomes.states.length > 1) filterStates(sheet);
   return [sheet];
 }

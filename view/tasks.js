@@ -18,19 +18,19 @@ function climbed(options) {
 const WORK = `'use strict';
 ${Tso}
 const LIMIT_OF = ${JSON.stringify(LIMIT_OF)};
-function climb(tso, rungs, input) {
+function climb(tso, rungs, input, pass) {
   const limits = rungs.map(options => options[LIMIT_OF[options.command]]);
   for (const [at, options] of rungs.slice(0, -1).entries()) {
     const answer = tso.answer(options, input);
     if (answer.status !== Tso.STATUS.unended) return answer;
-    postMessage({ progress: { command: options.command, count: limits[at], next: limits[at + 1], most: limits.at(-1), answer } });
+    postMessage({ progress: { command: options.command, pass, count: limits[at], next: limits[at + 1], most: limits.at(-1), answer } });
   }
   return tso.answer(rungs.at(-1), input);
 }
 onmessage = async ({ data: { bytes, questions, input } }) => {
   try {
     const tso = await Tso.of(bytes);
-    postMessage({ answers: questions.map(rungs => climb(tso, rungs, input)) });
+    postMessage({ answers: questions.map((rungs, pass) => climb(tso, rungs, input, pass)) });
   } catch (fault) {
     postMessage({ fault: String(fault) });
   }

@@ -22,7 +22,7 @@ const SHOWS = {
   "own-store-first.litmus": "core 0 reads its own store from its buffer before memory has it",
   "full-buffer.litmus": "a buffer of 4 stores is full: the fifth store stalls until the first has drained",
   "locked-waits.litmus": "a locked exchange stalls until the buffer is empty",
-  "false-sharing.litmus": "false sharing, with `--words 2`: each core uses its own location, but both are in one line, so each access misses",
+  "false-sharing.litmus": "false sharing, two words a line: each core uses its own location, but both are in one line, so each access misses",
   "both-loads-pass.order": "the report of the first example: a TSO execution",
   "load-too-new.order": "a load of 1 where no store has reached it: the first breach is named (C5, the axiom of the read value), with the value that is due",
 };

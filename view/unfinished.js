@@ -6,7 +6,7 @@ const MORE = 10; // times the limit, by one press
 
 /** What one can do where a limit was too low, or where somebody stopped the work (`met` final states are known then): buttons and words. */
 function waysOn(command, { isStopped = false, met = 0 } = {}) {
-  const name = LIMIT_OF[command], most = Number(settingOf(name).max), next = Math.min(most, MORE * valueOf(name));
+  const isFound = possible.found === inputOf('why'), name = LIMIT_OF[command], most = Number(settingOf(name).max), next = Math.min(most, MORE * valueOf(name));
   const button = (attributes, text) => html('button', { type: 'button', ...attributes }, text);
   const again = html('li', {}, button({ 'data-ask': command }, 'Begin again'), ' It starts from nothing, with the same limit.');
   const allow = button({ 'data-more': `${name} ${next}` }, `Allow ${next.toLocaleString('en')} ${name}`);
@@ -14,7 +14,7 @@ function waysOn(command, { isStopped = false, met = 0 } = {}) {
   const many = met === 1 ? 'One outcome' : `${met} outcomes`;
   const shown = html('li', {}, button({ 'data-met': '' }, 'Show what was met'), ` ${many}; there may be others.`);
   const other = command === 'outcomes'
-    ? [html('li', {}, button({ 'data-ask': 'why' }, 'Ask why'), ' It looks at the one end that the condition asks for, and needs no states.')]
+    ? [html('li', {}, button({ 'data-ask': 'why' }, isFound ? 'Show it' : 'Ask why'), isFound ? ' Why has found one: a run that ends as the condition asks.' : ' It looks at the one end that the condition asks for, and needs no states.')]
     : [html('li', {}, button({ 'data-ask': 'outcomes' }, 'Find all outcomes'), ' It goes through the states of the machine, and tells no cases apart.')];
   const fewer = 'Name fewer registers and locations in the condition: ends are told apart by these alone. Or take fewer instructions or cores.';
   return html('ul', { class: 'ways-on' }, ...other, ...(met > 0 ? [shown] : []), ...(isStopped ? [again] : higher), html('li', {}, fewer));

@@ -56,18 +56,25 @@ function showReason(answer, test) {
   Object.assign(sheet, { told, programs, cycle: null });
   const isTso = told.model === 'tso', can = told.answer !== 'never';
   if (!can && isTso) possible.refuted = test;
+  if (can && isTso && told.asked?.truth === true) possible.found = test;
   const parts = told.answer === 'never' ? refutedParts(told) : allowedParts(told, programs, proposition);
   const title = !can ? 'Why it can\'t be' : told.asked === null ? 'How it may end' : 'How it can be';
-  const section = html('section', { class: 'reason', 'aria-label': 'Why' }, answerTitle(title),
-    html('p', { role: 'status' }, ...(isTso ? judgeThought(can) : []), html('strong', {}, plainAnswer(told, proposition))),
-    inTerms(reasonSentence(told, proposition)), html('p', { class: 'small faint' }, eventsSaid(answer.text) + readAsSaid(test)), ...countsOffer(), ...parts);
+  const early = text => (told.asked === null ? {} : { 'data-early': text }); // what a lecture has in its place, up to the last arrow
+  const heading = answerTitle(title);
+  setAll(heading, early('Can it be?'));
+  const section = html('section', { class: 'reason', 'aria-label': 'Why' }, heading,
+    html('p', { role: 'status' }, ...(isTso ? judgeThought(can) : []), html('strong', early(whyQuestion(test)), plainAnswer(told, proposition))),
+    html('p', { class: 'small faint' }, eventsSaid(answer.text) + readAsSaid(test)), ...countsOffer(), ...parts);
   byId('states').replaceChildren(section);
   const [first, second] = told.answer === 'never' ? cyclesOf(told.steps) : [];
   if (first) drawCycle(first.at);
   if (!second) section.querySelector('[data-cycle]')?.remove(); // the one that is drawn
   showFromBehind();
-  section.append(sheetTools(section.querySelector('figure') !== null));
+  section.append(inTerms(reasonSentence(told, proposition)), sheetTools(section.querySelector('figure') !== null));
 }
+
+/** What is asked, as a question. */
+const whyQuestion = test => (quantifierOf(test) === 'forall' ? 'Can a run end otherwise?' : questionOf(test));
 
 /** The answer in one plain sentence: with the words that are asked for, where the condition asks for words at places alone. */
 function plainAnswer({ answer, asked }, proposition) {
@@ -97,30 +104,30 @@ function sheetTools(isDrawn) {
   return html('p', { class: 'buttons tools' }, ...saves, link, lectureButton(), html('span', { class: 'page-saved', role: 'status' }));
 }
 
+const FEW_TOGETHER = 4; // leaves of a low tree
+
 function refutedParts({ steps, leaves }) {
-  return [html('div', { class: 'refuted' }, html('div', { class: 'tree' }, treeList(treeOf(steps), steps, leaves <= FEW_LEAVES)), html('div', { class: 'drawn' }))];
+  return [html('div', { class: leaves <= FEW_TOGETHER ? 'refuted few' : 'refuted' }, html('div', { class: 'tree' }, treeList(treeOf(steps), steps, leaves <= FEW_LEAVES)), html('div', { class: 'drawn' }))];
 }
 
 function allowedParts(told, programs, proposition) {
   const own = ownWords(told), { model, coherence } = told, late = lateRun(programs, DEPTH_OF[model]);
   const choices = own.isShown ? own.choices : late && isExecution(late.run.order, told) ? late.choices : told.choices;
   const loads = loadsThatPassed(choices, model), executed = edgesOf(told), cycle = forbiddenCycle(executed, programs, loads);
-  const passes = passEdges(loads, executed, cycle), edges = [...cycle, ...passes, ...executed.filter(edge => !cycle.includes(edge))];
+  const passes = passEdges(loads, executed, cycle), first = [...cycle, ...passes], edges = [...first, ...executed.filter(edge => !first.includes(edge))];
   const places = proposition === null ? null : wantedWords(proposition);
-  const asked = edges.length > MANY_EDGES && places !== null ? [...askedEdges(programs, executed, places, coherence), ...cycle, ...passes] : edges;
+  const asked = edges.length > MANY_EDGES && places !== null ? [...askedEdges(programs, executed, places, coherence), ...first] : edges;
   const run = html('button', { type: 'button', 'data-choices': choices, 'data-depth': DEPTH_OF[model] }, 'Run it');
-  return [...passesPart(loads, own.said, cycle), ...sequentialPart(told), html('p', { class: 'buttons' }, run, ...choicesPart(choices)),
+  return [...sequentialPart(told), ...passesPart(loads, own.said, cycle), html('p', { class: 'buttons' }, run, ...choicesPart(choices)),
     ...executionPart(programs, edges, edges.filter(edge => asked.includes(edge)), cycle), tablesPart(executionTables(told))];
 }
 
-/** An execution that is drawn: its forbidden cycle edge by edge, and then what is left; without a cycle all at once. */
+/** An execution that is drawn, edge by edge: first its forbidden cycle, if it has one. */
 function executionPart(programs, edges, few, cycle) {
   if (edges.length === 0) return [];
-  const [first] = cycle, end = `So without store buffers ${first?.from} would be before itself. TSO doesn’t keep the dashed arrows, so this can be.`;
-  const panelOf = (shown, isAll) => {
-    const stops = [...cycle.map((_, at) => at + 1), ...(shown.length > cycle.length ? [shown.length] : [])];
-    return sheet.cycle = new CyclePanel(programs, shown, { end: first ? end : '', name: 'The execution', stops, isAll });
-  };
+  const [first] = cycle, end = `So this run needs store buffers: without them ${first?.from} would be before itself. TSO doesn’t keep the dashed arrows.`;
+  const told = { end: first ? end : '', name: 'The execution', closed: cycle.length, arrow: 'without store buffers, ' };
+  const panelOf = (shown, isAll) => new CyclePanel(programs, shown, { ...told, isAll });
   return [drawExecution(programs, edges, few, panelOf)];
 }
 
@@ -148,13 +155,17 @@ function runOf(choices, model) {
   return status === Tso.STATUS.good ? tellEntries(readLine(text.trim())) : null;
 }
 
-/** Whether it can be under sequential consistency too: asked in the worker, while the answer of TSO is read. */
+/** Whether it can be under sequential consistency too: asked in the worker, while the answer of TSO is read. If so, no fence is a cure. */
 function sequentialPart({ model, asked: wanted }) {
   if (model !== 'tso' || wanted === null) return [];
   const place = html('p', { class: 'sequential', role: 'status' });
   const say = ([{ status, text }]) => {
-    const word = status !== Tso.STATUS.good ? '' : JSON.parse(text).answer === 'allowed' ? 'it can be too, so no fence forbids it' : 'it can\'t be';
-    if (word !== '') putText(place, `Without store buffers (sequential consistency): ${word}.`);
+    if (status !== Tso.STATUS.good) return place.remove();
+    const isToo = JSON.parse(text).answer === 'allowed', cure = place.nextElementSibling.querySelector('.fine');
+    place.append(isToo ? html('strong', {}, 'No fence can forbid this end: sequential consistency allows it, too.') : 'Without store buffers (sequential consistency): it can\'t be.');
+    if (!isToo || cure === null) return;
+    cure.parentElement.style.minHeight = `${cure.parentElement.offsetHeight}px`; // so that nothing below moves
+    putText(cure, ' In another run that ends so, other loads may pass, or none.');
   };
   const { answers } = beginTask(bench.bytes, [{ command: 'why', json: true, model: 'sc', cases: POSSIBLE_CASES }], inputOf('why'));
   answers.then(say).catch(() => place.remove());
@@ -175,12 +186,12 @@ const isOfCycle = (load, cycle) => cycle.some(({ relation, to }) => relation ===
 /** These loads as they are told: those of the cycle first. */
 const toldFirst = (loads, cycle) => [...loads].sort((one, other) => isOfCycle(other, cycle) - isOfCycle(one, cycle));
 
-/** Program order that is told and that the cycle leaves out: from a store to a load that passed it. */
+/** What is told of loads and the cycle leaves out: program order from a store to a load that passed it, or where a load has its value from. */
 function passEdges(loads, executed, cycle) {
-  const drawn = eventsOf(executed).map(({ text }) => nameOfEvent(text)), told = cycle.length === 0 ? [] : toldFirst(loads, cycle).slice(0, MOST_PASSES);
+  const drawn = eventsOf(executed).map(({ text }) => nameOfEvent(text)), told = toldFirst(loads, cycle).slice(0, MOST_PASSES);
   return told.filter(load => !isOfCycle(load, cycle)).flatMap(({ text, location, passed }) => {
     const stores = passed.filter(store => store.location !== location), store = stores.find(each => drawn.includes(nameOfEvent(each.text))) ?? stores[0];
-    return store === undefined ? [] : [{ from: store.text, relation: 'unkept', to: text }];
+    return store === undefined ? executed.filter(({ relation, to }) => relation === 'rf' && to === text) : [{ from: store.text, relation: 'unkept', to: text }];
   });
 }
 
@@ -190,8 +201,9 @@ function passesPart(loads, named, cycle) {
   if (passes.length === 0) return [];
   const title = isOne ? 'A load passes a store' : 'Loads pass stores', more = passes.splice(MOST_PASSES).length;
   if (more > 0) passes.push(`And ${more} more.`);
-  const enough = isOne ? ' One load that passes its store is enough.' : '', after = ' This is the one order of a program that TSO doesn’t keep. ' +
-    'MFENCE or a locked instruction between the store and the load would keep it. In another run that ends so, other loads may pass.';
+  const enough = isOne ? ' One load that passes its store is enough.' : '';
+  const after = ' This is the one order of a program that TSO doesn’t keep. MFENCE or a locked instruction between the store and the load would keep it. ' +
+    'In another run that ends so, other loads may pass.';
   return [html('p', {}, html('strong', {}, `${title} in ${named}: `), passes.join(' ') + enough, html('span', { class: 'fine' }, after))];
 }
 
@@ -205,8 +217,8 @@ function markStep(at) {
 function drawCycle(at) {
   markStep(at);
   const { step, cycle } = closingOf(sheet.told.steps[at]), order = step === 'cycle' ? ' in memory order' : '';
-  sheet.cycle = new CyclePanel(sheet.programs, cycle, { end: `So ${cycle[0].from} would be before itself${order}. No order allows that.` });
-  byId('states').querySelector('.drawn').replaceChildren(sheet.cycle.element);
+  const end = `So ${cycle[0].from} would be before itself${order}. No order allows that.`, panelOf = (_, isAll) => new CyclePanel(sheet.programs, cycle, { end, isAll });
+  byId('states').querySelector('.drawn').replaceChildren(drawExecution(sheet.programs, cycle, cycle, panelOf));
   for (const button of document.querySelectorAll('[data-cycle]')) button.setAttribute('aria-pressed', String(Number(button.dataset.cycle) === at));
 }
 

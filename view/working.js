@@ -17,11 +17,11 @@ function estimated({ count, next, at, took }) {
 /** How far the work came, about, and how far it may come. */
 function progressText() {
   const { progress } = working;
-  return progress === null ? '' : `About ${grouped(estimated(progress))} of at most ${grouped(progress.most)} ${LIMIT_OF[progress.command]}.`;
+  return progress === null ? '' : `${progress.pass === 0 ? 'About' : 'Second pass, without store buffers: about'} ${grouped(estimated(progress))} of at most ${grouped(progress.most)} ${LIMIT_OF[progress.command]}.`;
 }
 
 function showWorking() {
-  byId('working-time').textContent = secondsWorked() > 0 ? `${secondsWorked()} s` : '';
+  byId('working-time').textContent = secondsWorked() > 0 ? `${secondsWorked()} s.` : '';
   putText(byId('working-told'), progressText());
 }
 
@@ -88,7 +88,9 @@ function stopWork() {
 }
 
 document.addEventListener('keydown', event => {
-  if (event.key === 'Escape') stopWork();
+  if (event.key !== 'Escape') return;
+  if (bench.task !== null) stopWork();
+  else if (isLecture() && byId('stopped').hidden && !byId('test-part').open) toggleLecture();
 });
 byId('stop').addEventListener('click', stopWork);
 byId('stopped').addEventListener('click', ({ target }) => 'met' in target.dataset && showMetBefore());

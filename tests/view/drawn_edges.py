@@ -68,16 +68,16 @@ def left_out_row(bench):
     """Of many cores those without an arrow are left out, and of many arrows those that don't matter for what is asked; a box shows all."""
     bench.open_fresh(width=1280)
     faults, all_cores = [], ["P%d" % core for core in range(8)]
-    for word, kind, few in ((0, ".cycle", ["P4", "P5"]), (1, ".drawn-part", ["P4", "P5"])):
+    for word, few in ((0, ["P4", "P5"]), (1, ["P0", "P1", "P2", "P4", "P5"])):  # with the loads that are told
         bench.fill("test", MANY % word)
         bench.value("askWhy()")
-        bench.wait("!bench.task && document.querySelector('.reason %s')" % kind)
-        faults += differs("cores of %s" % kind, bench.value(DRAWN), few)
+        bench.wait("!bench.task && document.querySelector('.reason .drawn-part')")
+        faults += differs("cores of %d" % word, bench.value(DRAWN), few)
         edges = bench.value("document.querySelectorAll('.reason [data-edge]').length")
-        bench.value("document.querySelector('.reason %s input[type=checkbox]').click()" % kind)
-        faults += differs("all cores of %s" % kind, bench.value(DRAWN), all_cores)
+        bench.value("document.querySelector('.reason .drawn-part input[type=checkbox]').click()")
+        faults += differs("all cores of %d" % word, bench.value(DRAWN), all_cores)
         every = bench.value("document.querySelectorAll('.reason [data-edge]').length")
-        is_said = word == 0 or bench.text(".drawn-part .buttons").startswith("Drawn are all %d arrows." % every)
+        is_said = bench.text(".drawn-part .buttons").startswith("Drawn are all %d arrows." % every)
         faults += [] if is_said and (word == 0 or every > edges) else ["all arrows are %d" % edges]
         bench.value("backToRun()")
     return faults + safety(bench)

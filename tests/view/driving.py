@@ -72,7 +72,7 @@ def begins_row(bench, folder):
     for count in range(1, 7):
         bench.window.click("[data-move=forward]")
         faults += faults_at(bench, trace, count)
-    said = "This run shows the outcome that is asked for. This tells nothing about other runs. Condition: exists (0:EAX=0 /\\ 1:EAX=0), true at this end."
+    said = "This run shows that it can be. Condition: exists (0:EAX=0 /\\ 1:EAX=0), true at this end."
     faults += [] if said in bench.text("#verdict") else ["the verdict: " + bench.text("#verdict")]
     faults += differs("at its end", bench.value("[byId('at-end').hidden, document.querySelector('[data-move=forward]').disabled, byId('play').disabled]"), [False, True, True])
     return faults + safety(bench)
@@ -96,8 +96,8 @@ def other_choice_row(bench):
     bench.value("document.querySelector('[data-stall=\"0s\"]').click()")
     faults += differs("the core is kept", bench.value("drive.words.at(-1)"), "0s") + faults_at(bench, bench.trace(), 5)
     faults += [] if "Stalled (Done)" in bench.text("#sentence") else ["it says " + bench.text("#sentence")]
-    bench.wait("decodeURIComponent(byId('share').href).includes('0d+0s')")
-    faults += differs("the address", bench.value("new URLSearchParams(byId('share').href.split('#')[1]).get('choices')").split(), bench.value("drive.words"))
+    bench.wait("currentAddress().includes('0d+0s')")
+    faults += differs("the address", bench.value("new URLSearchParams(currentAddress()).get('choices')").split(), bench.value("drive.words"))
     bench.value("byId('report-part').open = true")
     bench.wait("byId('report').textContent")
     report = bench.value("bench.tso.answer({ command: 'run' }, inputOf('run')).text")

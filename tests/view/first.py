@@ -141,8 +141,8 @@ def meanings_row(bench):
     words = bench.value("[...document.querySelectorAll('[data-means]')].filter(each => each.getClientRects().length > 0).map(each => each.dataset.means)")
     faults = [] if {"GetM", "M", "Store buffer", "Memory", "order", "protocol", "seed"} <= set(words) else ["the words are %s" % words]
     for word in sorted(set(words)):
-        bench.value("(part => (part.matches('[tabindex], button') ? part : part.querySelector('input, select')).focus())(document.querySelector('[data-means=\"%s\"]'))" % word)
-        faults += differs("the meaning of " + word, bench.value("[byId('meaning').hidden, byId('meaning').textContent === MEANINGS['%s']]" % word), [False, True])
+        bench.value("(part => (part.matches('[tabindex], button') ? part : part.querySelector('input, select')).focus())([...document.querySelectorAll('[data-means]')].find(({ dataset }) => dataset.means === %s))" % json.dumps(word))
+        faults += differs("the meaning of " + word, bench.value("[byId('meaning').hidden, byId('meaning').textContent === MEANINGS[%s]]" % json.dumps(word)), [False, True])
     bench.value("document.activeElement.blur()")
     return faults + differs("hidden", bench.value("byId('meaning').hidden"), True) + safety(bench)
 

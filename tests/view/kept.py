@@ -84,7 +84,7 @@ def too_long_row(bench, folder):
     bench.wait("location.hash.includes('at=2')")
     bench.fill("choices", "0s 0d 1s 1d " * 900)
     bench.wait("location.hash === ''")
-    faults = differs("said", bench.value("[byId('too-long').hidden, byId('share').hidden, byId('copy-link').disabled]"), [False, True, True])
+    faults = differs("said", bench.value("[byId('too-long').hidden, byId('copy-link').disabled]"), [False, True])
     faults += [] if "8000" in bench.text("#too-long") else ["it says " + bench.text("#too-long")]
     name, text = saved_page(bench, "document.querySelector('#too-long [data-save=page]').click()")
     wanted = bench.value("choicesText()")

@@ -1,9 +1,13 @@
 """Rows for looks and layout: what is framed and why, what stands still, what folds, and where something is said."""
+import json
 import os
+import urllib.parse
 
-from bench import differs, safety
+import reasons
+from bench import READY, differs, safety
 from drawn_edges import CROSSED
 from driver import Driver
+from kept import saved_page
 from playlists import CLICKED
 from teaching import is_in_sight, press, test_of
 
@@ -57,7 +61,39 @@ def stuck_head_row(bench):
     faults = differs("below the bar", bench.value(below), 0)
     bench.value("byId('own-run').hidden = true")
     bench.value("new Promise(done => requestAnimationFrame(() => setTimeout(done)))")
-    return faults + differs("below a lower bar", bench.value(below), 0) + safety(bench)
+    faults += differs("below a lower bar", bench.value(below), 0)
+    bench.open_fresh(width=1920)
+    bench.window.resize(1920, 1080)
+    bench.value("for (const word of '0s 1s 0s 1s 0d 1d'.split(' ')) makeChoice(word)")
+    bench.value("new Promise(done => requestAnimationFrame(() => setTimeout(done)))")
+    bench.value("document.body.style.paddingBottom = '1000px', scrollBy(0, byId('frame').getBoundingClientRect().top - 20)")
+    strip = "Math.round(byId('names').getBoundingClientRect().top - byId('stepper').getBoundingClientRect().bottom)"
+    faults += differs("no strip between the bar and larger names", bench.value(strip), 0)
+    notes = "(([a, b, c]) => [a.left === b.left, a.top >= b.bottom, c.left > b.right])(['.drawing > aside', '#machines', '#frame'].map(each => document.querySelector(each).getBoundingClientRect()))"
+    return faults + differs("the notes under the machine, beside the picture", bench.value(notes), [True, True, True]) + safety(bench)
+
+
+def large_row(bench):
+    """In a picture that is larger than the window each step brings the arrow into sight, its sentence stands over it, and the buttons stay where they are. All of it
+    can fit the screen. Arrows have letters, since places of a program have numbers."""
+    inside = "(([top, bottom]) => top >= 0 && bottom <= innerHeight)([each.getBoundingClientRect().top, each.getBoundingClientRect().bottom])"
+    bench.load(reasons.TWO.replace("\n MOV EAX", "\n" + 20 * " MOV ECX,$1 | MOV ECX,$1 | MOV ECX,$1 | MOV ECX,$1 ;\n" + " MOV EAX", 1), "")
+    bench.window.resize(1280, 500)
+    bench.value("askWhy()")
+    bench.wait("!bench.task && document.querySelector('.cycle.tall')")
+    faults, tops = [], []
+    for step in range(2, bench.value("sheet.cycle.cycle.length") + 1):
+        bench.value("document.querySelector('[data-edges=next]').click()")
+        seen = "['[data-letters].now', '.stepping'].map(name => document.querySelector(`.cycle ${name}`)).map(each => %s)" % inside
+        faults += differs("in sight at step %d" % step, bench.value(seen), [True, True])
+        tops.append(bench.value("document.querySelector('.stepping').getBoundingClientRect().top"))
+    faults += differs("the places of the bar", set(tops), {0})
+    names = "[arrowName(0), arrowName(25), arrowName(26), document.querySelectorAll('.cycle [data-letters] text')[1].textContent.split(' ')[0]]"
+    faults += differs("the names", bench.value(names), ["a", "z", "aa", "b"])
+    press(bench, ".drawn-part label:last-of-type input")
+    faults += differs("the whole picture", bench.value("document.querySelector('.cycle figure').offsetHeight <= innerHeight"), True)
+    bench.window.resize(1280, 800)
+    return faults + safety(bench)
 
 
 def still_lecture_row(bench):
@@ -91,7 +127,7 @@ def folded_list_row(bench):
     bench.value("addToList(); loadText('MP.litmus'); addToList(); showList()")
     names = "taught.list.map(({ name }) => name.split(':')[0])"
     press(bench, "#list li:first-child [aria-label$=' down']")
-    faults = differs("moved down", bench.value(names), ["MP", "SB"])
+    faults = differs("moved down", bench.value(names), ["Message passing", "Store buffering"])
     faults += differs("the last can't", bench.value("document.querySelector('#list li:last-child [aria-label$=\" down\"]').disabled"), True)
     press(bench, "#list li:last-child [data-listed]")
     faults += differs("after a test", bench.value("[byId('list-part').open, document.activeElement === byId('list-part').firstElementChild]"), [False, True])
@@ -216,11 +252,98 @@ def lecture_outcomes_row(bench):
     return faults + differs("counts", bench.value(heads), ["", "MSI", "MESI", "MOESI", "MOSI"]) + safety(bench)
 
 
+FOUR = "[...document.querySelectorAll('.machine')]"
+
+
+def hall_words_row(bench):
+    """In a lecture the start names the clicker's key, what stands under the picture moves at no step, the verdict is in words, and the sentence over four
+    protocols has two lines at most; a protocol that does otherwise says what, and nothing else."""
+    bench.open_fresh()
+    faults = []
+    for width, height in ((1920, 1080), (1280, 800)):
+        bench.window.resize(width, height)
+        bench.value("putDrive({ beside: null }); loadText('store-buffering.litmus'); putLecture(true)")
+        faults += differs("at the start", bench.text("#sentence"), "The machine at its start. 6 choices are known: PageDown makes them.")
+        tops = bench.value("drive.words.map((_, at) => (goTo(at + 1), Math.round(byId('verdict').getBoundingClientRect().top)))")
+        faults += differs("under the picture", len(set(tops)), 1)
+        faults += differs("the verdict", bench.text("#verdict"), "It can be: this run ends with 0 in P0's EAX and 0 in P1's EAX.")
+        bench.value("loadText('false-sharing.litmus'); putBeside(JSON.stringify(ABREAST))")
+        lines = bench.value("[0, ...drive.words].map((_, at) => (goTo(at), byId('sentence').offsetHeight / parseFloat(getComputedStyle(byId('sentence')).lineHeight)))")
+        faults += [] if max(lines) < 2.3 else ["the sentence has %s lines" % lines]
+        said = bench.value(FOUR + ".map(each => [each.querySelector('.said').matches('.differs'), each.querySelector('.said').textContent])")
+        owner = "P0 keeps the line as its owner; memory keeps the old word."
+        faults += differs("said", [each for each, text in said] + [text for each, text in said[2:]], [False, False, True, True, owner, owner])
+        bench.value("putLecture(false)")
+    return faults + safety(bench)
+
+
+def one_word_row(bench):
+    """False sharing stands beside the same with one word a line, also after a reload; where a line has several words, its machine is named so."""
+    bench.open_fresh()
+    bench.value("loadText('false-sharing.litmus'); goTo(7); putBeside(byId('beside-it').options[2].value); keepAddress()")
+    faults = differs("offered", bench.value("byId('beside-it').selectedOptions[0].textContent"), "one word a line")
+    misses = FOUR + ".map(each => [each.querySelector('h3').textContent.split(', ').at(-1), each.querySelector('.tally').textContent.split(',')[0].replace(/\\s/g, ' ')])"
+    wanted = [["2 words a line", "so far 4 misses"], ["1 word a line", "so far 2 misses"]]
+    faults += differs("misses", bench.value(misses), wanted)
+    bench.window.reload()
+    bench.value(READY)
+    bench.wait("drive.isOn")
+    return faults + differs("after a reload", bench.value("goTo(7), " + misses), wanted) + safety(bench)
+
+
+def own_question_row(bench):
+    """The answers of an exercise stand behind the condition where the question is the teacher's own, and else behind the question."""
+    faults = []
+    for asked, place in (("Is one fence enough?", "task-said"), (bench.value("questionOf(%s)" % json.dumps(test_of("SB"))), "exercise-asked")):
+        bench.open_fresh(urllib.parse.urlencode({"test": test_of("SB"), "exercise": asked}))
+        found = bench.value("[byId('exercise-answers').previousElementSibling.id, byId('exercise-asked').textContent, byId('exercise-thought').checkVisibility()]")
+        faults += differs("behind what", found, [place, "Exercise: " + asked, True])
+    return faults + safety(bench)
+
+
+def play_row(bench):
+    """Play draws choices that do something, and no others."""
+    bench.open_fresh()
+    bench.value("for (const word of ['0s', '1s', '0s', '1s']) makeChoice(word); play(); stopPlaying()")
+    return differs("played", bench.value("drive.words.slice(4).sort()"), ["0d", "1d"]) + safety(bench)
+
+
+def exercises_row(bench, folder):
+    """A list is saved as exercises too: each test with its settings and its question, no choices and no answer, and no lecture. From why an exercise can be saved."""
+    bench.open_fresh()
+    bench.value("addToList(); loadText('store-buffering-fenced.litmus'); askWhy()")
+    bench.wait("!bench.task && document.querySelector('.cycle')")
+    press(bench, "#way-back [data-save=exercise]")
+    faults = differs("asked there", bench.value("[byId('exercise-form').checkVisibility(), byId('exercise-said').value]"), [True, "Can both loads read 0, past the fences?"])
+    bench.value("addToList(); loadText('false-sharing.litmus'); addToList()")
+    faults += differs("names", bench.value("taught.list.map(({ name }) => name)"), ["Store buffering: the test", "Store buffering with fences: why", "False sharing: the run"])
+    name, text = saved_page(bench, "saveExercises()")
+    path = os.path.join(folder, "exercises.html")
+    with open(path, "w") as file:
+        file.write(text)
+    bench.window.open("file://" + path)
+    bench.value(READY)
+    bench.wait("drive.isOn")
+    faults += differs("opened", [name, bench.value("[isLecture(), isUnanswered(), taught.list.map(each => each.name)]")],
+                      ["3-exercises.html", [False, True, ["Store buffering", "Store buffering with fences", "False sharing"]]])
+    bench.value("answerExercise('can'); openListed(2)")
+    faults += differs("the third", bench.value("[isUnanswered(), drive.words, valueOf('words'), document.querySelector('#list-bar span').textContent]"),
+                      [True, [], 2, "3 of 3: False sharing"])
+    bench.value("openListed(0)")
+    faults += differs("back", bench.value("[exercise.thought, document.querySelector('#list-bar span').textContent]"), ["can", "1 of 3: Store buffering"])
+    bench.window.requests.clear()
+    return faults + safety(bench)
+
+
 def rows(page, folder):
     bench = Driver(page)
     return [
+        ("words of a lecture", lambda: hall_words_row(bench)), ("one word a line", lambda: one_word_row(bench)),
+        ("an exercise with one's own question", lambda: own_question_row(bench)), ("play without stalls", lambda: play_row(bench)),
+        ("exercises of a list", lambda: exercises_row(bench, folder)),
         ("the ring at the focus", lambda: focus_ring_row(bench)), ("a picture that a lesson speaks of", lambda: looked_row(bench)),
         ("names of lanes below the bar", lambda: stuck_head_row(bench)), ("a lecture that stands still", lambda: still_lecture_row(bench)),
+        ("a picture larger than the window", lambda: large_row(bench)),
         ("a list that folds", lambda: folded_list_row(bench)), ("rarer commands", lambda: commands_row(bench)),
         ("eight cores in one picture", lambda: eight_cores_row(bench, folder)), ("a notice at its button", lambda: notice_row(bench)),
         ("an answer under a wide test", lambda: wide_answer_row(bench)), ("a bracket that nothing closes", lambda: bracket_row(bench)),

@@ -16,6 +16,7 @@ import made_inputs
 
 MADE, SEED = 200, 4
 LATE = "0s 1s 0s 1s 0d 1d"
+CALM = ("0s 0d 0s 1s 1d 1s", "1s 1d 1s 0s 0d 0s", "0s 0d 1s 1d 0s 1s")  # no load passes a store
 # A search that takes more than a minute: four cores, each with four stores and three loads, of which the condition names all.
 LONG_SEARCH = ("X86 slow\n{ }\n P0 | P1 | P2 | P3 ;\n"
                + "".join(" %s ;\n" % " | ".join("MOV [%s],$%d" % ("xyzw"[(core + at) % 4], 1 + at + 4 * core) for core in range(4)) for at in range(4))
@@ -148,6 +149,8 @@ def outcomes_row(bench, folder):
     found = json.loads(bench.program(test, "outcomes", "--json")[1])
     rows = bench.value("[...document.querySelectorAll('#states tbody tr')].map(row => [...row.querySelectorAll('.number, .way')].map(cell => cell.textContent))")
     found["states"][0]["choices"] = LATE  # both loads pass, which the program's own choices don't show
+    for state, choices in zip(found["states"][1:], CALM):
+        state["choices"] = choices
     wanted = [[str(word) for word in state["values"].values()] + [state["choices"]] for state in found["states"]]
     faults = differs("the states", rows, wanted)
     faults += [] if "Sometimes" in bench.text("#states .terms") else ["it says " + bench.text("#states .terms")]
@@ -337,13 +340,13 @@ def addresses_row(bench):
     bench.fill("choices", "0s 1s # +%&=\n".replace(" # +%&=", "") + "seed 7 400")
     bench.value("(field => { field.value = 'moesi'; field.dispatchEvent(new Event('input', { bubbles: true })); })(byId('set-protocol'))")
     bench.fill("set-depth", "2")
-    report, address = bench.text("#report"), bench.value("byId('share').href")
+    report, address = bench.text("#report"), bench.page.address + "#" + bench.value("currentAddress()")
     bench.window.open(address)
     bench.value(READY)
     bench.wait("byId('report').textContent")
     faults = differs("opened", bench.text("#report"), report) + differs("settings", bench.value("changedSettings()"), [["protocol", "moesi"], ["depth", "2"]])
     bench.fill("choices", "0s " * 3000)
-    faults += differs("a long one", [bench.value("byId('share').hidden"), bench.value("byId('too-long').hidden")], [True, False])
+    faults += differs("a long one", [bench.value("byId('copy-link').disabled"), bench.value("byId('too-long').hidden")], [True, False])
     for foul in ("<script>window.wasRun = 1</script>", '"><img src=x onerror="window.wasRun = 1">', "X86 a\n{ }\n", ""):
         fragment = urllib.parse.urlencode({"test": foul, "choices": foul, "order": foul, "command": foul, "protocol": foul, "depth": foul, "states": "-1"})
         bench.window.open(bench.page.address + "#" + fragment)

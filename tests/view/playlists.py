@@ -10,7 +10,7 @@ from teaching import is_in_sight, press, test_of
 CLICKED = "document.body.dispatchEvent(new KeyboardEvent('keydown', { key: '%s', bubbles: true, cancelable: true }))"
 
 
-KINDS = ["SB: run, 6 choices", "MP: run, 19 choices", "IRIW: run, 28 choices"]
+KINDS = ["Store buffering: the run", "Message passing: the run", "IRIW: the run"]
 
 
 def at_its_end(bench):
@@ -82,14 +82,14 @@ def clicker_row(bench):
     bench.value("taught.list.pop(); openListed(0)")
     bench.value(CLICKED % "PageDown")
     said = ("No choices yet, so PageDown has nothing to step: press a step or a drain of a core. "
-            "Once more for the next test: MP: run, 19 choices.")
+            "PageDown once more: the next test, Message passing: the run.")
     faults += differs("said", bench.text("#sentence"), said)
     bench.value(CLICKED % "PageDown")
     faults += differs("by the second press", bench.value("testName()"), "MP")
     bench.value("openListed(0)")
     for choice in "0s 1s 0s 1s 0d 1d".split():
         press(bench, "[data-choice='%s']" % choice)
-    faults += [] if " Next: MP: " in bench.text("#sentence") else ["at the end it says " + bench.text("#sentence")]
+    faults += differs("the next is named", bench.value("byId('list-bar').lastElementChild.textContent"), "Next: Message passing: the run ▶")
     bench.value(CLICKED % "PageDown")
     faults += differs("the next", bench.value("testName()"), "MP")
     bench.value("putLecture(false)")
@@ -102,7 +102,7 @@ def updated(bench):
     bench.wait("!document.querySelector('#saves [data-update-list]').hidden")
     faults = differs("the note of what was added", bench.text("#listed"), "") + differs("offered", bench.text("#saves [data-update-list]"), "Update 1 of 1")
     press(bench, "#saves [data-update-list]")
-    faults += differs("the entry", bench.value("[taught.list.length, taught.list[0].name]"), [1, "SB: run, 1 choice"])
+    faults += differs("the entry", bench.value("[taught.list.length, taught.list[0].name]"), [1, "Store buffering: the run"])
     bench.value("takeFromLibrary('MP.litmus')")
     bench.wait("document.querySelector('#list-bar span').textContent === 'Not in the list of 1 entry'")
     return faults + differs("over another test", [bench.text("#listed"), bench.value("document.querySelector('#saves [data-update-list]').hidden")], ["", True])
@@ -114,20 +114,20 @@ def changed_row(bench):
     bench.open_fresh()
     bench.value("loadText('MP.litmus'); addToList(); loadText('false-sharing.litmus'); addToList(); goTo(3)")
     bench.wait("location.hash.includes('at=3')")
-    faults = differs("gone through", bench.value(bar), "2 of 2: false-sharing: run, 7 choices")
+    faults = differs("gone through", bench.value(bar), "2 of 2: False sharing: the run")
     bench.value("settingOf('words').value = '1'; settingOf('words').dispatchEvent(new Event('input', { bubbles: true }))")
-    bench.wait(bar + " === '2 of 2, changed: false-sharing: run, 7 choices'")
+    bench.wait(bar + " === '2 of 2, changed: False sharing: the run'")
     bench.value("openListed(0)")
-    faults += differs("another", bench.value(bar), "1 of 2: MP: run, 19 choices")
+    faults += differs("another", bench.value(bar), "1 of 2: Message passing: the run")
     bench.value("openListed(1)")
-    faults += differs("back", bench.value("[%s, %s]" % (bar, words)), ["2 of 2, changed: false-sharing: run, 7 choices", "1"])
+    faults += differs("back", bench.value("[%s, %s]" % (bar, words)), ["2 of 2, changed: False sharing: the run", "1"])
     bench.value("putLecture(true); openListed(0); openListed(1)")
-    faults += differs("in a lecture", bench.value("[%s, %s]" % (bar, words)), ["2 of 2: false-sharing: run, 7 choices", "2"])
+    faults += differs("in a lecture", bench.value("[%s, %s]" % (bar, words)), ["2 of 2: False sharing: the run", "2"])
     bench.value("putLecture(false); settingOf('words').value = '4'; settingOf('words').dispatchEvent(new Event('input', { bubbles: true }))")
     bench.wait("document.querySelector('#list-bar [data-update-list]')")
     press(bench, "#list-bar [data-update-list]")
     bench.value("openListed(0); openListed(1)")
-    return faults + differs("updated", bench.value("[%s, %s]" % (bar, words)), ["2 of 2: false-sharing: run, 7 choices", "4"]) + safety(bench)
+    return faults + differs("updated", bench.value("[%s, %s]" % (bar, words)), ["2 of 2: False sharing: the run", "4"]) + safety(bench)
 
 
 def from_the_start_row(bench):
@@ -165,12 +165,12 @@ def kept_list_row(bench):
     bench.window.reload()
     bench.value(READY)
     bench.wait("drive.isOn")
-    faults += differs("after a reload", bench.value("taught.list.map(({ name }) => name)"), ["SB: run, 1 choice", "MP: run, 6 choices"])
+    faults += differs("after a reload", bench.value("taught.list.map(({ name }) => name)"), ["Store buffering: the run", "Message passing: the run"])
     bench.value("document.querySelectorAll('[data-unlisted]')[1].click()")
     bench.window.reload()
     bench.value(READY)
     bench.wait("drive.isOn")
-    faults += differs("after one was taken off", bench.value("taught.list.map(({ name }) => name)"), ["SB: run, 1 choice"])
+    faults += differs("after one was taken off", bench.value("taught.list.map(({ name }) => name)"), ["Store buffering: the run"])
     bench.value("saveFile = () => {}; savePage()")
     bench.wait("[...document.querySelectorAll('.page-saved')].some(each => each.textContent !== '')")
     said = bench.value("[...document.querySelectorAll('.page-saved')].map(each => each.textContent).join('')")
@@ -213,13 +213,12 @@ def in_run_row(bench):
     faults = differs("after a sheet", after, [[1, True, 2]] * 2)
     bench.value("makeChoice('0s', true)")
     bench.value(CLICKED % "PageDown")
-    faults += [] if bench.text("#sentence").endswith("Once more for what was to come.") else ["it says " + bench.text("#sentence")]
+    faults += [] if bench.text("#sentence").endswith("PageDown once more: back to the prepared run.") else ["it says " + bench.text("#sentence")]
     bench.value(CLICKED % "PageDown")
     faults += differs("taken again", bench.value("[drive.words, drive.count]"), [known, 2])
     bench.value("goTo(drive.words.length)")
-    bench.wait("playlist.isEntry")
-    ends = bench.value("[byId('sentence').textContent.endsWith(' The end of the list.'), byId('list-bar').lastElementChild.textContent]")
-    faults += differs("the end", ends, [True, "The end of the list"])
+    bench.wait("playlist.where === whereInList()")
+    faults += differs("the end", bench.value("byId('list-bar').lastElementChild.textContent"), "The end of the list")
     bench.value("putLecture(false)")
     return faults + safety(bench)
 
@@ -281,7 +280,7 @@ def reloaded_lecture_row(bench, folder):
     """A reload keeps the lecture, with its entry and the choice, in the saved page and while it is prepared."""
     bench.open_fresh()
     bench.value("loadText('SB.litmus'); addToList(); loadText('MP.litmus'); addToList()")
-    faults = differs("while it is prepared", reloaded(bench), [1, 0, False, "2 of 2: MP: run, 19 choices"])
+    faults = differs("while it is prepared", reloaded(bench), [1, 0, False, "2 of 2: Message passing: the run"])
     _, text = saved_page(bench, "SAVES.page()")
     path = os.path.join(folder, "saved-lecture.html")
     with open(path, "w") as file:
@@ -291,19 +290,53 @@ def reloaded_lecture_row(bench, folder):
     bench.wait("drive.isOn")
     for _ in range(2):
         bench.value(CLICKED % "PageDown")
-    faults += differs("in the saved page", reloaded(bench), [0, 2, True, "1 of 2: SB: run, 6 choices"])
+    faults += differs("in the saved page", reloaded(bench), [0, 2, True, "1 of 2: Store buffering: the run"])
     bench.value("openListed(1)")
     bench.value(CLICKED % "PageDown")
-    faults += differs("at the second", reloaded(bench), [1, 1, True, "2 of 2: MP: run, 19 choices"])
+    faults += differs("at the second", reloaded(bench), [1, 1, True, "2 of 2: Message passing: the run"])
     bench.value("putLecture(false)")
     faults += differs("after the lecture", reloaded(bench)[2], False)
     bench.window.requests.clear()
     return faults + safety(bench)
 
 
+EARLY = "[...document.querySelectorAll('[data-early]')].map(each => [getComputedStyle(each).visibility, getComputedStyle(each, '::before').content])"
+
+
+def untold_row(bench):
+    """A lecture doesn't name what comes next, has the question over its machine, and says with the last arrow whether it can be; Escape ends it."""
+    bench.open_fresh()
+    bench.value("addToList(); loadText('store-buffering-fenced.litmus'); askWhy()")
+    bench.wait("!bench.task && document.querySelector('.cycle')")
+    bench.value("addToList(); putLecture(true); openListed(0)")
+    bar = bench.value("[byId('list-bar').lastElementChild.textContent, byId('asked-line').textContent, byId('asked-line').checkVisibility()]")
+    faults = differs("the bar and the question", bar, ["Next \u25b6", "Can both loads read 0?", True])
+    bench.value("openListed(1)")
+    bench.wait("!bench.task && document.querySelector('.cycle')")
+    faults += differs("at the first arrow", bench.value(EARLY), [["hidden", '"Can it be?"'], ["hidden", '"Can both loads read 0, past the fences?"']])
+    bench.value("sheet.cycle.move('all')")
+    faults += differs("at the last", bench.value(EARLY), [["visible", "none"]] * 2)
+    faults += differs("no Tab leads to what is off", bench.value("[...document.querySelectorAll('[data-edges]')].map(each => each.tabIndex)"), [0, 0, -1, -1])
+    bench.value("document.body.dispatchEvent(new KeyboardEvent('keydown', { key: 'Escape', bubbles: true }))")
+    return faults + differs("after Escape", bench.value("isLecture()"), False) + safety(bench)
+
+
+def written_row(bench):
+    """A register that the step wrote is marked, also where its word is the same. Abreast it stands beside its program, and the instruction that was done is marked."""
+    bench.open_fresh()
+    bench.value("loadText('store-buffering.litmus')")
+    marks = "(goTo(%d), [...document.querySelectorAll('.machine .registers')].map(each => each.querySelectorAll('.changed').length))"
+    faults = differs("marked", [bench.value(marks % count) for count in (2, 3, 4, 5)], [[0, 0], [1, 0], [0, 1], [0, 0]])
+    bench.value("loadText('false-sharing.litmus'); putBeside(JSON.stringify(ABREAST)); goTo(7)")
+    told = bench.value("['#programs code.changed', '#programs .changed.word', '.machine h3'].map(each => [...document.querySelectorAll(each)].map(each => each.textContent))")
+    return faults + differs("abreast", told, [["MOV EAX,[y]"], ["EAX=1"], ["MSI", "MESI, as MSI so far", "MOESI", "MOSI"]]) + safety(bench)
+
+
 def rows(page, folder):
     bench = Driver(page)
     return [
+        ("a lecture that tells nothing beforehand", lambda: untold_row(bench)),
+        ("a register that was written", lambda: written_row(bench)),
         ("a lecture after a reload", lambda: reloaded_lecture_row(bench, folder)),
         ("why in a list", lambda: own_reason_row(bench)),
         ("a list of tests", lambda: list_row(bench, folder)),

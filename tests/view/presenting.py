@@ -63,7 +63,7 @@ def lecture_fits_row(bench, folder):
         bench.window.screenshot(os.path.join(folder, "lecture-sharing-%d.png" % names), whole=False)
     sizes = bench.value("[...document.querySelectorAll('.cache td, .cache th, .bus .word, .memory .word')].map(each => parseFloat(getComputedStyle(each).fontSize))")
     faults += [] if min(sizes) >= 26 else ["words of caches have a size of %s" % min(sizes)]
-    counted = bench.value("[firstHistory().steps.filter(({ access }) => access === 'miss').length, document.querySelector('.tally').textContent]")
+    counted = bench.value("[firstHistory().steps.filter(({ access }) => access === 'miss').length, document.querySelector('.tally').innerText.replace(/\\s/g, ' ')]")
     faults += [] if counted[1].startswith("so far %d miss" % counted[0]) else ["of %d misses it says %s" % tuple(counted)]
     bench.value("putLecture(false)")
     return faults + safety(bench)
@@ -131,7 +131,7 @@ def exercise_row(bench, folder):
     bench.wait("drive.isOn")
     opened = bench.value("[testName(), drive.words, taught.list.length, byId('task').matches('.met'), byId('about').open]")
     faults = differs("its name", name, "SBF-exercise.html") + differs("opened", opened, ["SBF", [], 0, False, False])
-    faults += differs("asked at first", asked, "Can a run end with 0 in P0's EAX and 0 in P1's EAX?")
+    faults += differs("asked at first", asked, "Can both loads read 0, past the fences?")
     bench.value("byId('test-part').open = true")
     in_sight = "['find-outcomes', 'ask-why', 'library', 'exercise'].map(id => byId(id).getClientRects().length > 0)"
     said = bench.value("[byId('exercise-asked').textContent, byId('task-said').textContent.includes('Can this be done?'), /^(TSO|SC|Seen)=/m.test(withoutVerdicts('TSO=allowed\\nSeen=2\\n') + byId('test').value)]")

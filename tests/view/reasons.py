@@ -67,7 +67,7 @@ TREE = """(function told(list) {
     ? [item.querySelector('summary').textContent, told(item.querySelector('ul'))] : [...item.childNodes].filter(each => each.nodeName === '#text').map(each => each.textContent).join('').trim());
 })(document.querySelector('.tree > ul'))"""
 CYCLE = """({
-  edges: [...document.querySelectorAll('.drawn [data-letters]')].map((edge, at) => [edge.querySelector('text').textContent,
+  edges: [...document.querySelectorAll('.drawn [data-letters]')].map((edge, at) => [edge.querySelector('text').textContent.replace(`${arrowName(at)} `, ''),
     ...['.later', '.now'].map(name => edge.matches(name) && document.querySelector(`.drawn [data-edge='${at}']`).matches(name))]),
   sentences: [...document.querySelectorAll('.drawn .edges li')].map(item => [item.textContent, item.matches('.later'), item.hasAttribute('aria-current')]),
   buttons: [...document.querySelectorAll('[data-edges]')].map(button => button.ariaDisabled === 'true'),
@@ -76,7 +76,7 @@ CYCLE = """({
 ENDS = """(edges => edges.map(({ from, to }, at) => {
   const way = document.querySelector(`.drawn [data-edge='${at}'] path`), end = way.getPointAtLength(way.getTotalLength()), start = way.getPointAtLength(0);
   const boxOf = text => [...document.querySelectorAll('.drawn svg > .store, .drawn svg > .load')].find(each => each.dataset.event === text.split(' ').slice(0, 2).join(' ')).querySelector('rect').getBBox();
-  const away = ({ x, y }, box) => Math.max(Math.min(Math.abs(x - box.x), Math.abs(x - box.x - box.width)), Math.abs(y - box.y - box.height / 2));
+  const away = ({ x, y }, box) => Math.max(Math.min(Math.abs(x - box.x), Math.abs(x - box.x - box.width)), Math.abs(y - box.y - box.height / 2) - box.height / 2 + 4);
   return [away(start, boxOf(from)), away(end, boxOf(to))];
 }))"""
 
@@ -186,7 +186,7 @@ MANY_PASS = "X86 pass\n{ }\n %s ;\n %s ;\n %s ;\nexists (%s)\n" % (
 def unkept_row(bench):
     """Where it can be: program order that TSO doesn't keep closes a cycle; under sequential consistency it can't be; one's own run is explained, if it is
     the execution that is shown."""
-    letters = "[...document.querySelectorAll('.reason [data-letters] text')].map(each => each.textContent).sort()"
+    letters = "[...document.querySelectorAll('.reason [data-letters] text')].map((each, at) => each.textContent.replace(`${arrowName(at)} `, '')).sort()"
     sequential = "(document.querySelector('.sequential')?.textContent ?? '')"
     faults = []
     for name, arrows, said in (("SB", ["fr", "fr", "po, not kept", "po, not kept"], "it can't be"), ("R", ["co", "fr", "po", "po, not kept"], "it can't be"), ("plain", [], "")):
@@ -226,7 +226,15 @@ def stepped_row(bench):
         shown.append(bench.value(step))
     faults = differs("of SB", shown, [[at, 4, [edge]] for at, edge in enumerate(("edge-unkept", "edge-fr", "edge-unkept", "edge-fr"), 1)])
     end = bench.text(".cycle .edge-said strong")
-    faults += differs("the end", end, "So without store buffers P0:0 W x=1 would be before itself. TSO doesn’t keep the dashed arrows, so this can be.")
+    faults += differs("the end", end, "So this run needs store buffers: without them P0:0 W x=1 would be before itself. TSO doesn’t keep the dashed arrows.")
+    bench.load(TWO, "")
+    bench.value("askWhy()")
+    bench.wait("!bench.task && document.querySelector('.reason')")
+    alone = bench.value("sheet.cycle.show(sheet.cycle.closed + 1), [sheet.cycle.last - sheet.cycle.cycle.length, document.querySelectorAll('.reason [data-edge]:not(.later)').length]")
+    faults += differs("after the cycle each arrow alone, and at last all", alone, [1, 1])
+    for act in ("dispatchEvent(new PointerEvent('pointerover', { bubbles: true }))", "focus()"):
+        marked = bench.value("document.querySelector('.reason [data-arrow=\"%d\"]').%s, [...document.querySelectorAll('.pointed')].map(each => Object.entries(each.dataset)[0])" % (len(act) % 3, act))
+        faults += differs("what %s marks" % act, sorted(marked), sorted([name, str(len(act) % 3)] for name in ("edge", "letters", "arrow")))
     ask(bench, "plain", "tso")
     faults += differs("without a condition", bench.text(".reason strong"), "The test has no condition: add one, as exists (0:EAX=0).")
     faults += differs("without a cycle", bench.value("[sheet.cycle.last, document.querySelectorAll('[data-edges], .reason [data-edge].later').length]"), [1, 0])
@@ -252,6 +260,43 @@ def told_loads_row(bench):
         faults += differs("that one is enough", "is enough" in said, len(told) == 1) + differs("what keeps it", "MFENCE or a locked instruction" in said, True)
     read_as = bench.value("readAsSaid(' LOCK INC [Flag0] | DEC EAX ;\\n')")
     faults += differs("read as others", read_as, " LOCK INC [Flag0] is read as LOCK ADD [Flag0],$1. DEC EAX is read as SUB EAX,$1.")
+    return faults + safety(bench)
+
+
+CROWDED = "X86 crowded\n{ }\n P0 | P1 ;\n MOV [x],$1 | MOV EAX,[x] ;\n MOV [y],$1 | MOV EBX,[x] ;\n MOV EAX,[y] | MOV ECX,[x] ;\nexists (1:EAX=1 /\\ 1:EBX=1 /\\ 1:ECX=1)\n"
+APART = """(() => {
+  const ends = new Map();
+  for (const way of document.querySelectorAll('.reason [data-edge] path')) {
+    for (const { x, y } of [way.getPointAtLength(0), way.getPointAtLength(way.getTotalLength())]) {
+      const key = Math.round(x / 6);
+      ends.set(key, [...(ends.get(key) ?? []), y]);
+    }
+  }
+  const heights = [...ends.values()].map(each => each.sort((one, other) => one - other));
+  return [Math.min(...heights.flatMap(each => each.slice(1).map((y, at) => y - each[at]))), Math.max(...heights.map(each => each.length))];
+})()"""
+
+
+def apart_row(bench):
+    """Arrows that touch one side of a box lie apart there."""
+    bench.load(CROWDED, "")
+    bench.value("askWhy()")
+    bench.wait("!bench.task && document.querySelector('.reason [data-edge]')")
+    bench.value("sheet.cycle.move('all')")
+    least, most = bench.value(APART)
+    return ([] if least >= 13.9 and most >= 3 else ["of %d ends on a side the nearest are %.1f pixels apart" % (most, least)]) + safety(bench)
+
+
+def no_fence_row(bench):
+    """Where sequential consistency allows the end too, that is said first; the loads that pass in this run are told and drawn, and no fence is offered."""
+    bench.load(text_of("SB").replace("0:EAX=0", "0:EAX=1"), "1s 1s 1d 0s 0s 0d")
+    bench.value("goTo(6), askWhy()")
+    bench.wait("!bench.task && document.querySelector('.sequential')?.textContent")
+    said = bench.value("[...document.querySelectorAll('.reason > p')].map(each => each.textContent)")
+    at = [next((at for at, each in enumerate(said) if word in each), None) for word in ("No fence can forbid this end: sequential consistency allows it, too.", "P1:1 passed P1:0")]
+    faults = [] if None not in at and at[0] < at[1] else ["it says %s" % said]
+    arrows = bench.value("sheet.cycle.cycle.filter(({ relation }) => relation === 'unkept').map(({ from, to }) => [from, to])")
+    faults += differs("a fence", "MFENCE" in " ".join(said), False) + differs("the passes", arrows, [["P1:0 W y=1", "P1:1 R x=0"], ["P0:0 W x=1", "P0:1 R y=1"]])
     return faults + safety(bench)
 
 
@@ -331,6 +376,6 @@ def rows(page, folder):
         row = allowed_row if told_by(page.program, name, model)["answer"] == "allowed" else never_row
         found.append(("why, %s under %s" % (name, model), lambda row=row, name=name, model=model: row(bench, folder, name, model)))
     return found + [("why, after a reload", lambda: address_row(bench)), ("why, at 360 pixels", lambda: narrow_row(bench, folder)),
-                    ("why, how it can be, step by step", lambda: stepped_row(bench)), ("why, the loads that are told", lambda: told_loads_row(bench)),
+                    ("why, how it can be, step by step", lambda: stepped_row(bench)), ("why, arrows that lie apart", lambda: apart_row(bench)), ("why, where no fence helps", lambda: no_fence_row(bench)), ("why, the loads that are told", lambda: told_loads_row(bench)),
                     ("why, saved", lambda: saved_row(bench)),
                     ("why, the order that isn't kept", lambda: unkept_row(bench)), ("why, in a lecture", lambda: lecture_row(bench, folder))]

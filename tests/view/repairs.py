@@ -9,6 +9,7 @@ import xml.etree.ElementTree
 from bench import DIVIDING_LINE, EXAMPLES, FIRST, READY, differs, read, safety
 from browser import PRINTED_TEXT
 from driver import LARGE, Driver
+from teaching import press
 
 TEST = read(EXAMPLES, FIRST).partition(DIVIDING_LINE)[0]
 LINES = 1_000_000
@@ -276,6 +277,54 @@ def refused_choices_row(bench):
     return faults + differs("after a seed", bench.text("#plain"), "Word 4, 9s: there is no core 9.") + safety(bench)
 
 
+# In the place of the module: two forms that a compiler lists are refused, each with what is certain to be meant, and one with a choice.
+CERTAIN = """(() => {
+  const answer = asked, forms = [[/mov dword ptr \\[(\\w)\\], (\\d)/, 'MOV [$1],$$$2'], [/movl \\$(\\d), (\\w)/, 'MOV [$2],$$$1']];
+  asked = (options, input) => {
+    const lines = String(input).split('\\n'), at = lines.findIndex(line => /mov|jnz/.test(line));
+    const found = forms.map(([form, meant]) => [form.exec(lines[at])?.[0], form, meant]).find(([cell]) => cell !== undefined);
+    const why = found === undefined ? 'jnz isn\\'t read: leave it out; write the one way that is taken' : `'${found[0]}': write ${found[0].replace(found[1], found[2])}`;
+    return at < 0 ? answer(options, input) : { status: Tso.STATUS.refused, text: `Refused test line ${at + 1} BadInstruction\\n`, hint: `hint: line ${at + 1}: ${why}\\n` };
+  };
+})()"""
+COPIED = "X86 copied\n{ }\n P0 | P1 ;\n mov dword ptr [x], 1 | mov dword ptr [x], 1 ;\n MOV EAX,[y] | movl $2, y ;\n %s | MOV EAX,[x] ;\nexists (0:EAX=0)\n"
+
+
+def certain_row(bench):
+    """What a hint names certainly is written in its line: a row's end, a register, LOCK, and the signs of a condition. Then columns are aligned."""
+    faults = []
+    for line, hint, meant in (
+            ("MOV [x],$1 | MFENCE", "no ; ends this row at its line's end, so it has 3 cells", "MOV [x],$1 | MFENCE ;"),
+            ("MOV EAZ,[y] | MFENCE ;", "EAZ is no register: write EAX", "MOV EAX,[y] | MFENCE ;"),
+            ("XADD [x],EBX | MFENCE ;", "'XADD [x],EBX' isn't read without LOCK, which makes it one step: LOCK XADD [x],EBX", "LOCK XADD [x],EBX | MFENCE ;"),
+            ("exists (0:RAX=0)", "RAX has 64 bits, and registers have 32 here: EAX stands for it, write EAX", "exists (0:EAX=0)"),
+            ("exists (0:EAX==0 && x=1 || y=1)", "'=': in a condition write /\\ for and, \\/ for or", "exists (0:EAX=0 /\\ x=1 \\/ y=1)"),
+            ("MFENCE | jnz a ;", "jnz isn't read: leave it out; write the one way that is taken", None)):
+        faults += differs("of " + line, bench.value("repaired(%s, %s)?.text ?? null" % (json.dumps(line), json.dumps("hint: line 1: %s\n" % hint))), meant)
+    aligned = bench.value("aligned('X86 a\\n{ x=0; }\\nP0|P1;\\nMFENCE|MOV EAX,[x];\\nexists (x=0)\\n')")
+    return faults + differs("aligned", aligned, "X86 a\n{ x=0; }\n P0     | P1          ;\n MFENCE | MOV EAX,[x] ;\nexists (x=0)\n")
+
+
+def written_row(bench):
+    """What is certain to be meant is written into all such cells by one press, up to a mistake that leaves a choice; one undo takes it back."""
+    faults = []
+    for cell, is_left in (("jnz a", True), ("MFENCE", False)):
+        bench.open_fresh()
+        bench.value(CERTAIN)
+        bench.fill("test", COPIED % cell)
+        faults += differs("offered", bench.value("[byId('write-so').hidden, byId('plain').textContent]"), [False, "Line 4: 'mov dword ptr [x], 1': write MOV [x],$1."])
+        press(bench, "#write-so")
+        rows = bench.value("byId('test').value.split('\\n').slice(3, 5).map(row => row.replace(/ +/g, ' '))")
+        faults += differs("the test", rows, [" MOV [x],$1 | MOV [x],$1 ;", " MOV EAX,[y] | MOV [y],$2 ;"])
+        faults += differs("said", bench.text(".writing .noticed"), "Changed: 3 places. Undo takes all back. ")
+        faults += differs("then", bench.value("[byId('write-so').hidden, drive.isOn]"), [True, not is_left])
+        bench.value("answerNow()")
+        faults += differs("said after another answer", bench.text(".writing .noticed"), "" if is_left else "Changed: 3 places. Undo takes all back. ")
+        bench.value("undo()")
+        faults += differs("undone", bench.value("byId('test').value"), COPIED % cell)
+    return faults + safety(bench)
+
+
 def rows(page, folder):
     bench = Driver(page)
     return [
@@ -284,6 +333,7 @@ def rows(page, folder):
         ("many choices of which few are used", lambda: few_choices_row(bench)),
         ("texts that are too long", lambda: long_text_row(bench)),
         ("arrows at a wide picture", lambda: arrows_row(bench)),
+        ("what is certain, written", lambda: written_row(bench)), ("what is certain, in each hint", lambda: certain_row(bench)),
         ("stops of the tab key", lambda: stops_row(bench)),
         ("seeds that are none", lambda: seed_row(bench)),
         ("a control character in a name", lambda: control_row(bench)),

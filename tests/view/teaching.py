@@ -150,11 +150,11 @@ def guided_row(bench):
     faults = differs("the focus", bench.value("document.activeElement.id"), "lesson-next")
     bench.value("enterStep(2)")
     press(bench, "[data-choice='1s']")
-    refused = "The lesson goes on with 0s. Leave the lesson to go your own way."
+    refused = "The lesson goes on with step at P0. Leave the lesson to go your own way."
     told = bench.value("(box => [drive.count, box.textContent, box.matches('.wrong'), byId('sentence').textContent])(byId('lesson-after'))")
     faults += differs("in its box", told, [0, refused, True, ""])
     faults += differs("no room over the machine while nothing is said there", bench.value("byId('stepper').getClientRects().length"), 0)
-    faults += [] if bench.text("#lesson-place").endswith(": first press 0s") else ["at Next it says " + bench.text("#lesson-place")]
+    faults += [] if bench.text("#lesson-place").endswith(": first press step at P0") else ["at Next it says " + bench.text("#lesson-place")]
     press(bench, "[data-choice='0s']")
     press(bench, "[data-choice='1s']")
     faults += differs("the next step's own choice, pressed in the place of Next", bench.value("[lesson.at, lesson.isDone, drive.words, byId('sentence').textContent]"), [3, True, ["0s", "1s"], ""])
@@ -188,15 +188,15 @@ FOCUS = "(({ id, dataset, textContent }) => id || dataset.choice || dataset.edge
 
 
 def focus_row(bench):
-    """In a lesson the focus is always at what goes on: at the first answer after a refused key, at Next after an answer and after what a step shows;
+    """In a lesson the focus is always at what goes on: at the question after a refused key, at Next after an answer and after what a step shows;
     the last arrow of a cycle keeps it. A lesson of two tests counts the steps of each."""
     bench.open_fresh()
     press(bench, "#first-lesson")
     bench.value("document.activeElement.click()")
-    faults = differs("at a question", bench.value(FOCUS), "Yes")
+    faults = differs("at a question", bench.value(FOCUS), "lesson-said")
     bench.key_choice("1s")
-    faults += differs("after a refused key", bench.value("[%s, drive.count]" % FOCUS), ["Yes", 0])
-    bench.value("document.activeElement.click()")
+    faults += differs("after a refused key", bench.value("[%s, drive.count]" % FOCUS), ["lesson-said", 0])
+    press(bench, "[data-answer=Yes]")
     faults += differs("after an answer", bench.value(FOCUS), "lesson-next")
     bench.value("document.activeElement.click()")
     faults += differs("at a choice", bench.value(FOCUS), "0s")
@@ -204,8 +204,14 @@ def focus_row(bench):
     press(bench, "[data-show]")
     bench.wait("!bench.task && document.querySelector('.states-sheet')")
     faults += differs("after all outcomes", bench.value("[%s, document.querySelector('[data-show]').matches('.main')]" % FOCUS), ["lesson-next", False])
+    bench.value("enterStep(4)")
+    press(bench, "[data-answer='1']")
+    outlined = "[...document.querySelectorAll('[data-answer]')].map(each => getComputedStyle(each).outlineStyle)"
+    faults += differs("the right answer is outlined after a wrong one", bench.value(outlined), ["solid", "none"])
+    bench.value("enterStep(13)")
+    faults += differs("Next names the part", bench.text("#lesson-next"), "Next: What does a core see of its own stores?")
     places = [bench.value("enterStep(%d), byId('lesson-place').textContent.split(':')[0]" % at) for at in (13, 14)]
-    faults += differs("parts", places, ["Step 14 of 14, part 1 of 2", "Step 1 of 10, part 2 of 2"])
+    faults += differs("parts", places, ["Part 1 of 2, step 14 of 14", "Part 2 of 2, step 1 of 10"])
     bench.value("beginLesson('fences'); enterStep(12)")
     press(bench, "[data-show]")
     bench.wait("!bench.task && document.querySelector('.cycle')")
@@ -357,7 +363,7 @@ def has_larger_set(bench):
 
 # Where words share a line, what differs is marked; with a line for each word each protocol has two misses.
 SHARES = ("(valueOf('words') === 2 ? document.querySelector('.cache .differs') !== null"
-          " : [...document.querySelectorAll('.tally')].every(each => each.textContent.startsWith('so far 2 misses')))")
+          " : [...document.querySelectorAll('.tally')].every(each => /^so far 2\\smisses/.test(each.textContent)))")
 
 
 def rows(page, folder):

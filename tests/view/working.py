@@ -143,7 +143,7 @@ def deeper_run_row(bench):
     bench.value("settingOf('depth').value = 1; answerNow(); findOutcomes()")
     bench.wait("!bench.task && document.querySelector('.states-sheet')")
     bench.value("document.querySelector('#states tr.met [data-choices]').click()")
-    said = "This is a run of the answer, with store buffers of depth 32 (yours have depth 1)."
+    said = "This is a run of the answer, with store buffers of 32 stores (yours have 1)."
     faults = differs("said", bench.text("#own-said"), said) + differs("its depth", bench.value("settingOf('depth').value"), "32")
     press(bench, "#own-back")
     return faults + differs("one's own", bench.value("settingOf('depth').value"), "1") + safety(bench)
@@ -332,11 +332,28 @@ def place_row(bench):
     return faults + safety(bench)
 
 
+def current_row(bench):
+    """Who asks again for an answer that is there is led to it. The tab has the test's name, and the second pass of a search its own."""
+    bench.open_fresh()
+    bench.value("byId('test-part').open = true; putCommand('why'); answerNow(); byId('begin').focus()")
+    press(bench, "#begin")
+    bench.wait("!bench.task && document.querySelector('.answer-title')")
+    faults = differs("at first", bench.value("[byId('brief').hidden, document.activeElement.id]"), [False, "begin"])
+    press(bench, "#begin")
+    faults += differs("again", bench.value("[bench.task, document.activeElement.className]"), [None, "answer-title"])
+    faults += differs("the title", bench.value("document.title"), bench.value("testName()") + " – Litmus tests under TSO")
+    passes = "[0, 1].map(pass => { working.progress = { command: 'outcomes', pass, count: 2000, next: 16000, most: 16000, at: Date.now(), took: 1e9 }; return progressText(); })"
+    far = "bout 2,000 of at most 16,000 states."
+    faults += differs("the passes", bench.value(passes), ["A" + far, "Second pass, without store buffers: a" + far])
+    return faults + safety(bench)
+
+
 def rows(page, folder):
     bench = Driver(page)
     return [
         ("long work in sight", lambda: long_work_row(bench, folder)),
         ("a search that was stopped, in sight", lambda: stopped_row(bench)),
+        ("an answer that is there", lambda: current_row(bench)),
         ("registers that nothing writes", lambda: noted_row(bench)),
         ("an answer in brief beside the test", lambda: brief_row(bench)),
         ("a refusal of what is asked", lambda: refused_row(bench)),

@@ -1,0 +1,109 @@
+"""Rows for what a reader stumbled over who doesn't know TSO: runs without a load that passes, ways on, what is held back, signs that are explained."""
+import os
+
+from bench import DIVIDING_LINE, EXAMPLES, differs, read, safety
+from driver import Driver
+
+GALLERY = os.path.join(EXAMPLES, "gallery")
+IN_SIGHT = "%r.filter(each => document.querySelector(each)?.checkVisibility())"
+
+
+def find_outcomes(bench):
+    bench.value("findOutcomes()")
+    bench.wait("!bench.task && document.querySelector('.states-sheet')")
+
+
+def calm_row(bench):
+    """To an outcome that sequential consistency has too the table's run has no load that passes a store; to one of TSO alone a load passes."""
+    faults = []
+    passing = """[...document.querySelectorAll('#states tbody tr')].map(row => { const run = runOf(row.querySelector('[data-choices]').dataset.choices, 'tso');
+      return [row.textContent.includes('TSO alone'), run.order.some(({ passed }) => passed.length > 0), run.choices.get('stalled') + run.choices.get('unused'),
+        [...row.querySelectorAll('[data-name]')].every(cell => lastWord(run, cell.dataset.name) === Number(cell.textContent))]; })"""
+    for name in ("SB", "MP", "SB+mfences", "INC+xadds", "IRIW"):
+        bench.open_fresh()
+        bench.fill("test", read(GALLERY, name + ".litmus").partition(DIVIDING_LINE)[0])
+        find_outcomes(bench)
+        for is_alone, passes, others, is_so in bench.value(passing):
+            faults += differs("of %s: passes, stalled or left over, ends so" % name, [passes, others, is_so], [is_alone, 0, True])
+    return faults + safety(bench)
+
+
+def ways_row(bench):
+    """A lesson's parts are in the list by name; after the first part of the first one a link leads to fences, and the end of fences to C."""
+    bench.open_fresh()
+    bench.value("byId('lessons-part').open = true")
+    parts = bench.value("[...document.querySelectorAll('#lessons li li')].map(each => each.textContent)")
+    faults = differs("the parts", parts, ["What does a core see of its own stores?", "Is one fence enough?"])
+    bench.window.click("#lessons [data-lesson=fences]:not([data-step='0'])")
+    faults += differs("begun", bench.value("[lesson.told.name, byId('lesson-title').textContent, byId('lesson-place').textContent.split(':')[0]]"),
+                      ["fences", "Is one fence enough?", "Part 2 of 2, step 1 of 9"])
+    bench.value("enterStep(lesson.told.steps.length - 1)")
+    faults += [] if bench.text("#lesson-said").startswith("Both zeros: without fences yes, with one fence yes, with two no.") else ["it says " + bench.text("#lesson-said")]
+    bench.window.click("#lesson-also")
+    faults += differs("C", bench.value("[byId('from-c').open, document.activeElement.textContent]"), [True, "From C and C++"])
+    bench.value("beginLesson('store-buffering', 13)")
+    faults += differs("the task", bench.value("byId('task').hidden"), True)
+    bench.window.click("#lesson-also")
+    faults += differs("on to fences", bench.value("[lesson.told.name, lesson.at, byId('lesson-also').getClientRects().length]"), ["fences", 0, 0])
+    bench.value("enterStep(1)")
+    return faults + differs("what to press", bench.text("#lesson-said"), "P0\u2019s store first. Press step at P0 (keys 0 s).") + safety(bench)
+
+
+def held_back_row(bench):
+    """That a fence waits isn't said before the lesson's question is answered."""
+    shown = "getComputedStyle(document.querySelector('[data-choice=\"0s\"]'), '::after').content"
+    bench.open_fresh()
+    bench.value("beginLesson('fences', 2)")
+    bench.window.click("[data-choice='1s']")
+    faults = differs("before the question", bench.value(shown), "none")
+    bench.window.click("#lesson-next")
+    faults += differs("at the question", bench.value(shown), "none")
+    bench.window.click("[data-answer='It waits']")
+    return faults + ([] if "waits" in bench.value(shown) else ["after the answer: " + bench.value(shown)]) + safety(bench)
+
+
+def signs_row(bench):
+    """A run that shows that it can be says so, and nothing of other runs; the signs of the condition have their meanings."""
+    bench.open_fresh()
+    faults = []
+    for words, wanted in (("0s 1s 0s 1s 0d 1d", "This run shows that it can be. Condition: exists (0:EAX=0 /\\ 1:EAX=0), true at this end."),
+                          ("0s 0d 0s 1s 1d 1s", "This run doesn't show the outcome that is asked for. This tells nothing about other runs. Condition: exists (0:EAX=0 /\\ 1:EAX=0), false at this end.")):
+        bench.fill("choices", words)
+        bench.value("DRIVES.last()")
+        faults += differs("the verdict", bench.text("#verdict"), wanted)
+    signs = bench.value("[...document.querySelectorAll('#verdict [data-means]')].map(each => [each.textContent, each.tabIndex, MEANINGS[each.dataset.means]])")
+    faults += differs("signs", signs, [["exists", 0, "Asks whether a run ends so."], ["/\\", 0, "And."]])
+    bench.value("byId('lecture').click()")
+    bench.wait("isLecture()")
+    bench.value("DRIVES.last()")
+    faults += differs("in a lecture", bench.text("#verdict"), "This run doesn't show the outcome that is asked for. This tells nothing about other runs.")
+    return faults + safety(bench)
+
+
+def settings_row(bench):
+    """What only caches go by is set where they are ticked; with an error in the test there is a way back to the first one."""
+    asked = IN_SIGHT % ["#set-depth", "#set-protocol", "#set-bus", "#set-sets", "#set-ways", "#caches-note"]
+    bench.open_fresh()
+    bench.value("byId('test-part').open = true")
+    faults = differs("settings", bench.value(asked), ["#set-depth", "#caches-note"])
+    bench.window.click("#caches")
+    faults += differs("with caches", bench.value(asked), ["#set-depth", "#set-protocol", "#set-bus", "#set-sets", "#set-ways"])
+    bench.fill("test", "X86 other\n{ }\n P0 ;\n MOV [x],$1x ;\n")
+    faults += differs("a way back", bench.value(IN_SIGHT % ["#lesson-again", "#to-first-test"]), ["#to-first-test"])
+    bench.window.click("#to-first-test")
+    faults += differs("back", bench.value("[testName(), drive.isOn, byId('left-lesson').hidden]"), ["SB", True, True])
+    find_outcomes(bench)
+    bench.window.click("#way-back [data-ask=why]")
+    bench.wait("!bench.task && document.querySelector('.reason')")
+    return faults + differs("ways on", bench.value(IN_SIGHT % ["#way-back [data-ask=why]", "#way-back [data-ask=outcomes]"]), ["#way-back [data-ask=outcomes]"]) + safety(bench)
+
+
+def rows(page, _):
+    bench = Driver(page)
+    return [
+        ("beginners, runs in which no load passes", lambda: calm_row(bench)),
+        ("beginners, ways on", lambda: ways_row(bench)),
+        ("beginners, what is held back", lambda: held_back_row(bench)),
+        ("beginners, signs", lambda: signs_row(bench)),
+        ("beginners, settings and ways back", lambda: settings_row(bench)),
+    ]
