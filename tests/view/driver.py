@@ -114,10 +114,22 @@ def used_registers(trace, number):
     return [name for name in start if re.search(r"\b%s\b" % name, code) or name in named or start[name]]
 
 
+def written_registers(cell):
+    """The registers that an instruction writes."""
+    words = cell.upper().replace(",", " ").split()
+    is_locked = words[0] == "LOCK"
+    name, *operands = words[is_locked:]
+    registers = [each for each in operands if "[" not in each]
+    if name in ("XCHG", "XADD", "CMPXCHG"):
+        return ["EAX"] if name == "CMPXCHG" else registers
+    return [] if is_locked else [each for each in operands[:1] if each in registers]
+
+
 def wanted_core(trace, step, before, machine, number):
     """What a core's panel has to show after a step, by the trace alone."""
     core, old, program = machine["cores"][number], before["cores"][number], trace["programs"][number]
     bus = machine["bus"] or {"choice": None}
+    written = written_registers(program[old["place"]]) if core["place"] != old["place"] else []
     lines = [[line["line"], state_of(machine, number, line["line"], line["state"]), " ".join(map(str, line["words"]))] for cached in core["lines"] for line in cached]
     if machine["bus"] and bus["core"] == number and len(bus["state"] or "") > 1 and bus["line"] not in [line[0] for line in lines]:
         lines.append([bus["line"], bus["state"], "…"])
@@ -129,7 +141,7 @@ def wanted_core(trace, step, before, machine, number):
                     (core["buffer"][0] if core["buffer"] else "empty") + holds[1]],
         "disabled": [ended, ended], "place": core["place"] if core["place"] < len(program) else -1, "program": program,
         "registers": {name: str(word) for name, word in core["registers"].items() if name in used_registers(trace, number)},
-        "changedRegisters": ["%s=%d" % (name, word) for name, word in core["registers"].items() if word != old["registers"][name]],
+        "changedRegisters": ["%s=%d" % (name, word) for name, word in core["registers"].items() if word != old["registers"][name] or name in written],
         "buffer": core["buffer"], "left": old["buffer"][:1] if len(old["buffer"]) > len(core["buffer"]) else [],
         "lines": lines, "changes": changes, "acted": step is not None and step["choice"].startswith(str(number)),
     }
