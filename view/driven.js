@@ -79,7 +79,7 @@ function showPicture() {
   if (drawn.picture === null || drawn.picture.isTooNarrowFor(firstHistory())) makePicture();
   drawn.picture.show(firstHistory(), drive.count);
   const isOver = firstHistory().hasEnded(drive.count), isEmpty = drawn.picture.rows.length === 0;
-  putText(byId('order-title'), isOver ? 'Memory order' : isEmpty ? 'Memory order: no entry yet' : 'Memory order so far');
+  putText(byId('order-title'), isOver ? 'Memory order' : isEmpty ? 'Memory order: memory has seen nothing yet' : 'Memory order so far');
   const { layout: { top }, extent, bottom } = drawn.picture, most = frameMost() * innerHeight;
   const height = (isLecture() ? top(mostRows(firstHistory().programs)) + STRIP : bottom) - HEAD;
   extent.style.minHeight = isLecture() && height <= most ? `${height}px` : '';

@@ -104,6 +104,7 @@ function click(isOn) {
 document.addEventListener('keydown', event => {
   if (!isLecture() || !['PageDown', 'PageUp'].includes(event.key) || event.target.matches('textarea')) return;
   event.preventDefault();
+  byId('test-part').open = false; // what is edited is out of the hall's sight again
   click(event.key === 'PageDown');
 });
 document.addEventListener('fullscreenchange', () => {

@@ -203,9 +203,10 @@ def unkept_row(bench):
     lanes = "[...document.querySelectorAll('.reason .head')].map(each => each.textContent)"
     room = "(figure => [figure.scrollWidth <= figure.clientWidth, figure.getBoundingClientRect().right <= innerWidth])(document.querySelector('.reason figure'))"
     bench.window.resize(1280, 800)
+    bench.fill("test", MANY_PASS + "\n")
     bench.value("begin()")
     bench.wait("!bench.task && document.querySelector('.reason')")
-    bench.value("document.querySelector('.drawn-part input')?.click()")
+    bench.value("for (const each of document.querySelectorAll('.drawn-part input')) each.click()")
     faults += differs("eight cores", bench.value(lanes), ["P%d" % core for core in range(8)]) + differs("side by side at 1280", bench.value(room), [True, True])
     faults += differs("long tables", bench.value("document.querySelector('.in-tables').open"), False)
     bench.load(text_of("SB"), "0s 1s 0s 1s 0d 1d")

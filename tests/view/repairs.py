@@ -244,18 +244,18 @@ THREE = "X86 three\n{ }\n P0 | P1 | P2 ;\n MOV [x],$1 | MOV EAX,[x] | MOV EAX,[x
 
 
 def other_test_row(bench):
-    """A test that comes in the place of another takes neither its choices nor a depth that an example set; undo brings them back. An edit keeps them."""
+    """A test that comes in the place of another doesn't take its choices; undo brings them back. An edit keeps them. A depth stays as it was set by hand."""
     bench.open_fresh()
     bench.value("loadText('Dekker.litmus'); putChoices('0s 1s'); answerNow(); remember()")
     state = "[choicesText().trim(), settingOf('depth').value, drive.words.length]"
-    faults = differs("an example's depth", bench.value(state), ["0s 1s", "1", 2])
+    faults = differs("choices of an example", bench.value(state), ["0s 1s", "4", 2])
     bench.fill("test", bench.value("byId('test').value").replace("X86 Dekker", "X86 Dekker2"))
-    faults += differs("an edit of the name", bench.value(state), ["0s 1s", "1", 2])
+    faults += differs("an edit of the name", bench.value(state), ["0s 1s", "4", 2])
     bench.fill("test", THREE)
     faults += differs("another test", bench.value(state), ["", "4", 0])
     faults += [] if "Another test" in bench.text("#sentence") else ["it says " + bench.text("#sentence")]
     bench.value("undo()")
-    faults += differs("undone", bench.value(state), ["0s 1s", "1", 2])
+    faults += differs("undone", bench.value(state), ["0s 1s", "4", 2])
     bench.value("putSettings([['depth', '2']]); settingOf('depth').dispatchEvent(new Event('input', { bubbles: true })); remember()")
     bench.fill("test", THREE)
     return faults + differs("a depth by hand", bench.value(state), ["", "2", 0]) + safety(bench)
