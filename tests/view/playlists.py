@@ -89,7 +89,7 @@ def clicker_row(bench):
     bench.value("openListed(0)")
     for choice in "0s 1s 0s 1s 0d 1d".split():
         press(bench, "[data-choice='%s']" % choice)
-    faults += differs("the next is named", bench.value("byId('list-bar').lastElementChild.textContent"), "Next: Message passing: the run ▶")
+    faults += differs("the next, whose name would tell the answer", bench.value("byId('list-bar').lastElementChild.textContent"), "Next ▶")
     bench.value(CLICKED % "PageDown")
     faults += differs("the next", bench.value("testName()"), "MP")
     bench.value("putLecture(false)")
