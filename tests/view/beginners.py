@@ -76,7 +76,7 @@ def signs_row(bench):
     bench.value("byId('lecture').click()")
     bench.wait("isLecture()")
     bench.value("DRIVES.last()")
-    faults += differs("in a lecture", bench.text("#verdict"), "This run doesn't show the outcome that is asked for. This tells nothing about other runs.")
+    faults += differs("in a lecture", bench.text("#verdict"), "This run doesn't end with 0 in P0's EAX and 0 in P1's EAX. It tells nothing about other runs.")
     return faults + safety(bench)
 
 
