@@ -27,7 +27,7 @@ fn is_refused(word: &str) -> bool {
 /// The program without commands.
 fn program<'a>(alloc: Global) -> Command<'a> {
     Command::new(alloc, "tso")
-        .version("2.0.0")
+        .version("2.0.1")
         .about("Runs x86 litmus tests on a simulated multiprocessor under total store order (TSO)")
         .after_help(help::TSO)
         .subcommand_required(true)

@@ -3,13 +3,13 @@ use Rattle.machine_core.proofs.Vocabulary.{◌≡◌, inl, ℕ, Result, Ok, Err,
 use Rattle.machine_core.proofs.Vocabulary.{Attempt, BusState, effect_on, HitFits, Bus, Atomic, Split, NoMemory, Choice, HolderFits}
 use Rattle.machine_core.proofs.Vocabulary.{holder_of, Hardware, IsHeldForAccess, held_as, state_in, ChoiceAnswer, MayMakeIn, attempt_in}
 use Rattle.machine_core.proofs.Vocabulary.{effect_in, split_effect_in, HasMade, IsUndone, effect_made_in, Whole}
-use Rattle.machine_core.proofs.Vocabulary.{◌≢◌, false, subst, NoAccess, access_of, after_choice, same_choice, acts, stalled, core_of, chosen}
+use Rattle.machine_core.proofs.Vocabulary.{◌≢◌, false, NoAccess, access_of, after_choice, same_choice, acts, stalled, core_of, chosen}
 use Rattle.tso_terms.specs.FlatMachine.{State}
 use Rattle.tso_terms.specs.declared.choice.Stall.TheVariants as stall
 use Rattle.machine_core.specs.OneChoice.{AreConsistent}
 use Rattle.machine_core.specs.declared.split.Course.{Course}
 use Rattle.machine_core.specs.declared.split.Course.TheVariants.{ActsAtOnce, Stalls}
-use Rattle.machine_core.specs.inner.Split.{IsCourseOn, TakesBus}
+use Rattle.machine_core.specs.inner.Split.{IsCourseOn}
 use Rattle.machine_core.proofs.NextChoices.{other-begins}
 use Rattle.machine_core.proofs.Splitting.{none-needed, bus-needed, may-act, begins-acts, begins-asks, asks-held, held-next}
 
@@ -91,8 +91,3 @@ module _ {P : Type 0} (t : Litmus) (m : Hardware P) (choice : Choice) where
       ∙ other-begins t m choice course.0
       ∙ begins-asks t m choice (bus-needed t m choice course.2)
       ∙ asks-held (core_of (state_in m).flat (chosen choice)) choice (state_in m).holder course.1
-
-  -- what takes the bus is on a split one
-  pub takes-split : (bus : Bus) (course : Course) → TakesBus course → IsCourseOn bus t m choice course → bus ≡ Split
-  takes-split Atomic course takes is = absurd (subst TakesBus is takes)
-  takes-split Split course takes is = refl

@@ -5,6 +5,10 @@ pub chosen : {A : Type 0} (b : Bool) (x y z : A) → cond b x y ≡ z → ((b �
 chosen true x y z e = inl (refl, e)
 chosen false x y z e = inr (refl, e)
 
+pub either_way : (b : Bool) → (b ≡ true) ⊎ (b ≡ false)
+either_way true = inl refl
+either_way false = inr refl
+
 pub same_bytes : (xs ys : List ℕ) → bytes_eq xs ys ≡ true → xs ≡ ys
 same_bytes xs ys e = (bytes_eq-Decides xs ys).0 e
 
@@ -12,7 +16,4 @@ pub bytes_eq-same : (xs : List ℕ) → bytes_eq xs xs ≡ true
 bytes_eq-same xs = (bytes_eq-Decides xs xs).1 refl
 
 pub bytes_eq-other : (xs ys : List ℕ) → (xs ≡ ys → ⊥) → bytes_eq xs ys ≡ false
-bytes_eq-other xs ys ne = elim (two (bytes_eq xs ys)) [ inl equal ↦ absurd (ne (same_bytes xs ys equal)) | inr differs ↦ differs ] where
-  two : (b : Bool) → (b ≡ true) ⊎ (b ≡ false)
-  two true = inl refl
-  two false = inr refl
+bytes_eq-other xs ys ne = elim (either_way (bytes_eq xs ys)) [ inl equal ↦ absurd (ne (same_bytes xs ys equal)) | inr differs ↦ differs ]

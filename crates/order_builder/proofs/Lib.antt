@@ -1,6 +1,7 @@
 pub mod Vocabulary
 pub mod Choosing
 pub mod LineLemmas
+pub mod OrderLine
 pub mod PrintLemmas
 pub mod LoopLemmas
 pub mod NumberLaws

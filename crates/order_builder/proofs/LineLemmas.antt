@@ -6,8 +6,8 @@ use Rattle.order_builder.proofs.Vocabulary.{ltb-false, eqb-true, nat_tests, take
 use Rattle.order_builder.proofs.Vocabulary.{length-take, get_or-take, get_or_at, get_or_append_left, length_push, take-append-drop}
 use Rattle.order_builder.proofs.Vocabulary.{drop_more, nil_from_length, All-get_or, All-from_get_or, position-Some, position_or_len_is}
 use Rattle.order_builder.proofs.Vocabulary.{fails_before_first, count_by-le-length, slice_split_none, slice_split_at, length-slice_split}
-use Rattle.order_builder.proofs.Vocabulary.{lines_in, lines_of, is_line_feed, split_once, halves_at, rest_of, after_line}
-use Rattle.order_builder.proofs.Vocabulary.{IsFirstOfLines, order_start, bytes_eq, codes, slice_get}
+use Rattle.order_builder.proofs.Vocabulary.{lines_in, lines_of, is_line_feed, split_once, halves_at}
+use Rattle.order_builder.proofs.Vocabulary.{IsFirstOfLines, IsOtherFirst, order_start, bytes_eq, codes}
 use Rattle.order_builder.proofs.Choosing.{chosen, bytes_eq-other}
 
 -- no byte of the text is this one
@@ -131,6 +131,13 @@ lines_of-alone text e some =
     lines_of-last text (split_once-None 10 text (sym e)) some
     ∙ ap (λ (l : List (List ℕ)). strip_carriage_return text ∷ l) (sym (lines_of-nil [] refl))
 
+-- a text that isn't empty has a line
+pub some_line : (text : List ℕ) → 0 < length text → lines_of text ≡ [] → ⊥
+some_line text some none = halved (split_once 10 text) refl where
+  halved : (o : Option (List ℕ × List ℕ)) → o ≡ split_once 10 text → ⊥
+  halved (Some (line, rest)) e = let first = lines_of-split_once text line rest e in cc
+  halved None e = let alone = lines_of-alone text e some in cc
+
 -- ---- a first line that isn't `Order`
 
 first_of_front : (line : List ℕ) (n b : ℕ) (bs : List ℕ) → take n line ≡ b ∷ bs → get_or line 0 0 ≡ b
@@ -152,20 +159,15 @@ still_first (b ∷ bs) more e = e
 other_line : (line : List ℕ) → (get_or line 0 0 ≡ 79 → ⊥) → bytes_eq (strip_carriage_return line) (codes "Order") ≡ false
 other_line line other = bytes_eq-other (strip_carriage_return line) (codes "Order") (λ same. other (first_kept line 79 (codes "rder") same))
 
-other_half : (text : List ℕ) (o : Option (List ℕ × List ℕ)) → o ≡ split_once 10 text → 0 < length text → (get_or text 0 0 ≡ 79 → ⊥)
-    → IsFirstOfLines false (lines_of (rest_of o)) (lines_of text)
-other_half text (Some (line, rest)) e some other =
-    let whole : text ≡ line ++ 10 ∷ rest = (split_once-Some 10 text line rest (sym e)).0 in
-    let begins : get_or line 0 0 ≡ 79 → ⊥ = λ first. other (ap (λ (l : List ℕ). get_or l 0 0) whole ∙ still_first line (10 ∷ rest) first) in
-    (strip_carriage_return line, lines_of-split_once text line rest e, other_line line begins)
-other_half text None e some other = (strip_carriage_return text, lines_of-alone text e some, other_line text other)
-
 -- the first line of a text that doesn't begin with `O`
-pub other_first : (text : List ℕ) (first : ℕ) → Some first ≡ slice_get text 0 → (first ≡ 79 → ⊥)
-    → IsFirstOfLines false (lines_of (after_line text)) (lines_of text)
-unfolding after_line
-other_first [] first e other = absurd cc
-other_first (b ∷ bs) first e other = other_half (b ∷ bs) (split_once 10 (b ∷ bs)) refl (omega arith) (λ is. let same : first ≡ b = cc in other (same ∙ is))
+pub other_first : (text : List ℕ) → 0 < length text → (get_or text 0 0 ≡ 79 → ⊥) → IsOtherFirst (lines_of text)
+other_first text some other = halved (split_once 10 text) refl where
+  halved : (o : Option (List ℕ × List ℕ)) → o ≡ split_once 10 text → IsOtherFirst (lines_of text)
+  halved (Some (line, rest)) e =
+      let whole : text ≡ line ++ 10 ∷ rest = (split_once-Some 10 text line rest (sym e)).0 in
+      let begins : get_or line 0 0 ≡ 79 → ⊥ = λ first. other (ap (λ (l : List ℕ). get_or l 0 0) whole ∙ still_first line (10 ∷ rest) first) in
+      (lines_of rest, (strip_carriage_return line, lines_of-split_once text line rest e, other_line line begins))
+  halved None e = (lines_of [], (strip_carriage_return text, lines_of-alone text e some, other_line text other))
 
 -- ---- where `Order` is, by the first line
 

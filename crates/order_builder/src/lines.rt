@@ -1,10 +1,10 @@
 //! The lines of a text, borrowed from it, with a carriage return at the end taken off.
 
-ghost use Rattle.std.specs.Prelude.{◌≡◌, ◌<◌, ◌∷◌, [], length, IfSome, IfNone};
+ghost use Rattle.std.specs.Prelude.{◌≡◌, ◌<◌, ◌∷◌, [], length, count_by, IfSome, IfNone};
 ghost use Rattle.std.specs.Option.{option_map};
 ghost use Rattle.std.specs.Str.Lines.{strip_carriage_return};
-ghost use Rattle.order_builder.specs.Lines.{lines_of};
-ghost use Rattle.order_builder.specs.inner.Reading.{split_once, after_line, without_prefix};
+ghost use Rattle.order_builder.specs.Lines.{lines_of, is_line_feed};
+ghost use Rattle.order_builder.specs.inner.Reading.{split_once, begins_line, without_prefix};
 
 /// What comes before the first such byte, and what after it; `None` where there is no such byte.
 pub fn split_once(text: &[u8], byte: u8) -> Option<(&[u8], &[u8])>
@@ -27,16 +27,26 @@ pub fn without_prefix<'a>(text: &'a [u8], prefix: &[u8]) -> Option<&'a [u8]>
     text.strip_prefix(prefix)
 }
 
-/// What comes after the first line of a text.
-#[tactic(auto, unfolding(crate::specs::inner::Reading::after_line))]
-pub fn after_line(text: &[u8]) -> &[u8]
-    ensures value { result.now ≡ after_line text.now }
-    ensures shorter { 0 < length text.now → length result.now < length text.now }
+/// Whether a line of the text begins at this place.
+#[tactic(auto, unfolding(crate::specs::inner::Reading::begins_line))]
+pub fn begins_line(text: &[u8], at: usize) -> bool
+    requires { at < length text.now }
+    ensures { result ≡ begins_line text.now at }
 {
-    match split_once(text, b'\n') {
-        Some((_, rest)) => rest,
-        None => &[],
+    at == 0 || text[at - 1] == b'\n'
+}
+
+/// How many line feeds are in the text.
+pub fn line_feeds_in(text: &[u8]) -> usize
+    ensures { result ≡ count_by is_line_feed text.now }
+{
+    let mut count = 0;
+    for at in 0..text.len() {
+        if text[at] == b'\n' {
+            count += 1;
+        }
     }
+    count
 }
 
 /// The first line of a text, without a carriage return at its end, and what comes after it;

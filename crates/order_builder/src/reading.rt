@@ -3,20 +3,21 @@
 //! A line loses one carriage return at its end, and an empty rest after the last line feed is no
 //! line. Lines are counted from 1.
 
-ghost use Rattle.std.specs.Prelude.{◌≡◌, ◌≢◌, ◌+◌, ◌<◌, ◌≤◌, ◌^◌, [], length, List, Ok, Err, IfSome, IfNone, IfOk, IfErr};
+ghost use Rattle.std.specs.Prelude.{◌≡◌, ◌≢◌, ◌+◌, ◌<◌, ◌≤◌, ◌^◌, length, count_by, drop, true, List, Ok, Err, IfSome, IfNone, IfOk, IfErr};
 ghost use Rattle.std.specs.Option.{option_map};
-ghost use Rattle.order_builder.specs.Lines.{lines_of};
+ghost use Rattle.order_builder.specs.Lines.{lines_of, is_line_feed};
 ghost use Rattle.tso_terms.specs.declared.execution.Entry.{Entry};
 ghost use Rattle.order_builder.specs.Spelling.{SpellsOrder, HasFault};
 ghost use Rattle.order_builder.specs.declared.fault.OrderFault.{OrderFault};
 ghost use Rattle.order_builder.specs.declared.fault.OrderFault.TheVariants.{NoMemory};
 ghost use Rattle.order_builder.specs.Reading.{entries_of_order, Gives};
-ghost use Rattle.order_builder.specs.inner.Reading.{entries_in, order_start, IsFirstOfLines};
+ghost use Rattle.order_builder.specs.inner.Reading.{entries_in, order_start, begins_line, IsOrderLineAt, IsOtherFirst};
 
 use crate::entries::{end_in, entry_in};
 use crate::fault::OrderFault;
-use crate::lines::{after_line, next_line};
+use crate::lines::{begins_line, line_feeds_in, next_line};
 use crate::numbers::number_is;
+use memchr::memchr;
 use std::alloc::Global;
 use tso_terms::{Execution, Test};
 
@@ -38,55 +39,53 @@ pub fn read_order(alloc: Global, test: &Test, text: &[u8]) -> Result<Execution, 
 {
     // A test keeps its limits, on which the names of its locations rest.
     test.know_limits();
-    match after_order_line(text) {
-        Some((rest, start)) => read_entries(alloc, test, rest, start),
+    match around_order_line(text) {
+        Some((before, after)) => read_entries(alloc, test, before, after),
         None => Err(OrderFault::NoOrder),
     }
 }
 
-/// What comes after the first line that is `Order`, and how many lines there are up to it.
-#[tactic(auto, unfolding(crate::specs::inner::Reading::order_start), using(crate::proofs::LineLemmas::start_here, crate::proofs::LineLemmas::start_later))]
-fn after_order_line(text: &[u8]) -> Option<(&[u8], usize)>
-    ensures value { option_map (λ found. (found.1, lines_of found.0.now)) result ≡ order_start 0 (lines_of text.now) }
-    ensures within { IfSome result (λ found. found.1 + length found.0.now ≤ length text.now) }
+/// What comes before the first line that is `Order`, and what after it. A line is made only where an `O` is.
+fn around_order_line(text: &[u8]) -> Option<(&[u8], &[u8])>
+    ensures value { option_map (λ found. (count_by is_line_feed found.0.now + 1, lines_of found.1.now)) result ≡ order_start 0 (lines_of text.now) }
+    ensures within { IfSome result (λ found. length found.0.now + length found.1.now < length text.now) }
 {
-    let mut rest = text;
-    let mut lines = 0;
-    while let Some((is_order, after)) = next_is_order(rest) {
-        lines += 1;
-        if is_order {
-            return Some((after, lines));
+    let mut at = 0;
+    while let Some(others) = memchr(b'O', &text[at..]) {
+        at += others;
+        if let Some(after) = after_order_at(text, at) {
+            return Some((&text[..at], after));
         }
-        rest = after;
+        at += 1;
     }
     None
 }
 
-/// Whether the first line of a text is `Order`, and what comes after that line; `None` where the text is empty. A line is made only
-/// if it begins with `O`.
-fn next_is_order(text: &[u8]) -> Option<(bool, &[u8])>
-    ensures some { IfSome result (λ found. IsFirstOfLines found.0 (lines_of found.1.now) (lines_of text.now)) }
-    ensures shorter { IfSome result (λ found. length found.1.now < length text.now) }
-    ensures none { IfNone result (lines_of text.now ≡ []) }
+/// What comes after the line that begins here, where it is `Order`; `None` where it is another, or none begins here.
+fn after_order_at(text: &[u8], at: usize) -> Option<&[u8]>
+    requires { at < length text.now }
+    ensures some { IfSome result (λ after. IsOrderLineAt text.now at (lines_of after.now)) }
+    ensures shorter { IfSome result (λ after. at + length after.now < length text.now) }
+    ensures none { IfNone result (begins_line text.now at ≡ true → IsOtherFirst (lines_of (drop at text.now))) }
 {
-    match text.first() {
-        Some(first) if *first != b'O' => Some((false, after_line(text))),
-        _ => match next_line(text) {
-            Some((line, after)) => Some((line == b"Order".as_slice(), after)),
-            None => None,
-        },
+    if !begins_line(text, at) {
+        return None;
+    }
+    match next_line(&text[at..]) {
+        Some((line, after)) if line == b"Order".as_slice() => Some(after),
+        _ => None,
     }
 }
 
-/// The entries of a text that comes after some lines, the last of which is `Order`.
+/// The entries of a text that comes after these bytes and a line `Order`.
 fn read_entries(
     alloc: Global,
     test: &Test,
+    before: &[u8],
     text: &[u8],
-    start: usize,
 ) -> Result<Execution, OrderFault>
-    requires { start + length text.now < 2 ^ 64 }
-    ensures { Gives entries_of_order result (entries_in test.now start 0 (lines_of text.now)) }
+    requires { length before.now + length text.now + 1 < 2 ^ 64 }
+    ensures { Gives entries_of_order result (entries_in test.now (count_by is_line_feed before.now + 1) 0 (lines_of text.now)) }
 {
     let mut order = Vec::new(alloc);
     let mut rest = text;
@@ -99,7 +98,7 @@ fn read_entries(
         }
         match entry_in(test, line) {
             Some(entry) => order.push(entry)?,
-            None => return Err(OrderFault::BadLine(start + order.len() + 1)),
+            None => return Err(OrderFault::BadLine(line_feeds_in(before) + order.len() + 2)),
         }
         rest = after;
     }

@@ -1,5 +1,5 @@
 -- An order as it is read from the lines of a text, or the first fault in their order.
-use Rattle.std.specs.Prelude.{ℕ, Bool, ◌≡◌, ◌+◌, ◌-◌, ◌^◌, ◌==◌, List, [], ◌∷◌, length, take, drop, Option, Some, None, Result, Ok, Err, codes, if◌then◌else◌}
+use Rattle.std.specs.Prelude.{ℕ, Bool, true, false, ◌||◌, ◌≡◌, ◌+◌, ◌-◌, ◌^◌, ◌==◌, get_or, List, [], ◌∷◌, length, take, drop, Option, Some, None, Result, Ok, Err, codes, if◌then◌else◌}
 use Rattle.std.specs.List.{position}
 use Rattle.std.specs.Option.{option_map}
 use Rattle.std.specs.Str.{bytes_eq}
@@ -26,14 +26,9 @@ halves_at text i = (take i text, drop (i + 1) text)
 unfoldable pub split_once : ℕ → List ℕ → Option (List ℕ × List ℕ)
 split_once byte text = option_map (halves_at text) (position (λ b. b == byte) text)
 
--- what comes after a line feed, if there is one
-abbrev pub rest_of : Option (List ℕ × List ℕ) → List ℕ
-rest_of (Some halves) = halves.1
-rest_of None = []
-
--- what comes after the first line of a text
-unfoldable pub after_line : List ℕ → List ℕ
-after_line text = rest_of (split_once 10 text)
+-- whether a line of the text begins at this place
+unfoldable pub begins_line : List ℕ → ℕ → Bool
+begins_line text at = (at == 0) || (get_or text (at - 1) 0 == 10)
 
 -- what comes after a prefix
 unfoldable pub without_prefix : List ℕ → List ℕ → Option (List ℕ)
@@ -124,6 +119,14 @@ order_start before (line ∷ lines) =
 -- these lines are one, of which it is said whether it is `Order`, and then those after it
 abbrev pub IsFirstOfLines : Bool → List (List ℕ) → List (List ℕ) → Type 0
 IsFirstOfLines is_order after lines = (line : List ℕ) × (lines ≡ line ∷ after) × (bytes_eq line (codes "Order") ≡ is_order)
+
+-- the first of these lines is another
+abbrev pub IsOtherFirst : List (List ℕ) → Type 0
+IsOtherFirst lines = (after : List (List ℕ)) × IsFirstOfLines false after lines
+
+-- at this place a line begins that is `Order`, and these come after it
+abbrev pub IsOrderLineAt : List ℕ → ℕ → List (List ℕ) → Type 0
+IsOrderLineAt text at after = (begins_line text at ≡ true) × IsFirstOfLines true after (lines_of (drop at text))
 
 -- the order that is read after the line `Order`
 abbrev pub order_from : Litmus → Option (ℕ × List (List ℕ)) → Result (List Entry) OrderFault
