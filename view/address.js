@@ -67,6 +67,7 @@ function keepAddressSoon() {
 function keepAddress() {
   if (!bench.tso || (shown.run !== null && !drive.isOn && byId('line').value !== '')) return;
   drawShare();
+  noteVisit();
   followShown();
   const address = currentAddress(), isLong = address.length > LONGEST_ADDRESS;
   if (location.hash === '' && (isLong || address === kept.atFirst)) return;

@@ -6,9 +6,9 @@
  * The module and what it was made of, a long task while it runs, and the answer that is shown with its command; null while a machine
  * is driven on from it. `tracing` is what the module tells of steps: `step` alone and the whole trace, the whole `trace`, or null.
  * `hasLargerSet` is whether it has the larger set of instructions. `told` is what the shown sheet was asked. `took` is how many milliseconds the last answer to `why` took, and `again` is the
- * timer of one that comes by itself.
+ * timer of one that comes by itself. `last` is the long command that was asked last.
  */
-const bench = { tso: null, bytes: null, task: null, answer: null, tracing: null, hasLargerSet: false, told: null, took: Infinity, again: null };
+const bench = { tso: null, bytes: null, task: null, answer: null, tracing: null, hasLargerSet: false, told: null, took: Infinity, again: null, last: 'outcomes' };
 
 const LONG = ['outcomes', 'sweep', 'counts', 'why'];
 
@@ -103,6 +103,7 @@ function showAsked(command) {
   showTestLine(command);
   document.title = `${testName()} – Litmus tests under TSO`;
   showWordsLine(command);
+  putText(byId('enter-asks'), `Ctrl+Enter: ${BEGINS[askedNext()]}`);
   forgetNotices(command);
   showLeft();
   showExercise();
@@ -222,7 +223,8 @@ function focusAnswer() {
     said.id = 'answer-said'; // it is read with the heading
     title.setAttribute('aria-describedby', said.id);
   }
-  (lesson.told === null ? title : byId('lesson-next')).focus({ preventScroll: true });
+  if (lesson.told === null) title.focus({ preventScroll: true });
+  else focusStep();
 }
 
 /** Folds the text of an answer that is JSON and that a sheet shows; JSON that somebody reads stays open. */

@@ -3,6 +3,7 @@
 // Events and edges drawn over the programs: a cycle, edge by edge, or an execution. All measures are pixels.
 
 const EVENTS = { least: 120, side: 44, code: 20, line: 15, box: 26, gap: 6, head: 30, thin: 6, letter: 8, place: 4, smaller: 0.7 };
+const CHIP_LETTERS = 13;
 const NARROW = { least: 116, side: 26, letters: 14, smaller: 0.76, from: 0.9, step: 8, most: 40 }; // for lanes that don't fit the window
 
 /** The events that edges name, each once. */
@@ -11,7 +12,7 @@ const eventsOf = edges => [...new Map(edges.flatMap(({ from, to }) => [from, to]
 /** The words that tell an event from others: its core, place and kind. */
 const nameOfEvent = text => text.split(' ').slice(0, 2).join(' ');
 
-/** The heights at which rows begin: an instruction, under it its events, and under these the channels of the ways that go past cores. */
+/** The heights at which rows begin: an instruction, its events, and channels of ways past cores. */
 function topsOfRows(rows, highOf, channels, codes) {
   const tops = [EVENTS.head];
   for (let row = 0; row < rows; row++) {
@@ -31,8 +32,7 @@ function linesOfCode(text, place, isNarrow) {
 const codesOf = (programs, rows, isNarrow) => Array.from({ length: rows }, (_, row) =>
   EVENTS.code + EVENTS.line * (Math.max(...programs.map(program => linesOfCode(program[row] ?? '', row, isNarrow).length)) - 1));
 
-/** The room beside the boxes of a lane, and beside the outer lanes (`margin`): the letters of the longest name of a relation have to go there;
- * of narrow lanes, between two of them. */
+/** The room beside the boxes of a lane, and beside the outer lanes (`margin`), for the longest letters; of narrow lanes, between two of them. */
 function sidesFor(edges, isNarrow, added) {
   const longest = ROUTES.letter * Math.max(0, ...edges.map((_, at) => lettersAt(edges, at, isNarrow).length)) + ROUTES.around + 4;
   if (!isNarrow) return { side: Math.max(EVENTS.side, longest + ROUTES.around), margin: 0 };
@@ -47,7 +47,7 @@ function wordsOfPrograms(programs, { margin, lane, side, tops, codes }) {
     ...program.map((_, place) => ({ x: margin + core * lane + side, y: tops[place] + 2, width, height: codes[place] - 4 }))]);
 }
 
-/** Where each event's box stands: in its core's lane, under its instruction. Narrow lanes have so much room (`added`) more beside their boxes. */
+/** Where each event's box stands, under its instruction. Narrow lanes have so much room (`added`) more beside their boxes. */
 function layOutEvents(programs, edges, isNarrow, added = 0) {
   const events = eventsOf(edges), rows = Math.max(...programs.map(program => program.length)), far = farEdges(edges), channels = channelsOf(far, rows);
   const widest = Math.max(...programs.flat().map(text => text.length + EVENTS.place), ...events.map(({ text }) => text.length));
@@ -71,7 +71,7 @@ const drawWay = (way, edge, at) => svg('g', { class: `edge edge-${edge.relation}
 
 /** The letters of an edge, which stand over all else. */
 const drawLetters = (chip, edges, at, isNarrow) => svg('g', { class: `edge edge-${edges[at].relation}`, 'data-letters': at }, svg('title', {}, edgeSentence(edges[at])),
-  svg('rect', { class: 'chip', ...chip, rx: 4 }), textAt({ x: chip.x + chip.width / 2, y: chip.y + 13 }, 12, lettersAt(edges, at, isNarrow)));
+  svg('rect', { class: 'chip', ...chip, rx: 4 }), textAt({ x: chip.x + chip.width / 2, y: chip.y + 13.5 }, CHIP_LETTERS, lettersAt(edges, at, isNarrow)));
 
 /** The point of an arrow in its relation's colour. */
 const drawPoint = relation => svg('marker', { id: `point-${relation}`, viewBox: '0 0 8 8', refX: 7, refY: 4, markerWidth: 9, markerHeight: 9, markerUnits: 'userSpaceOnUse', orient: 'auto' },
@@ -91,13 +91,14 @@ function drawEvent({ event, ...box }) {
     fittingText({ x: box.x + box.width / 2, y: box.y + box.height / 2 + 5 }, 14, event.text.slice(event.text.indexOf(' ') + 1), box.width - 8));
 }
 
-const AROUND = 48; // pixels of a window that no picture has
+const AROUND = 56; // pixels of a window that no picture has
 const MANY_CORES = 4; // with more than these, cores without an edge are left out
-const isTooWide = figure => Number(figure.dataset.least) > innerWidth - AROUND;
-const isTooHigh = figure => Number(figure.dataset.high) > innerHeight - AROUND;
+const FITTED = { letters: 9, above: 120 }; // of a picture that fits the screen
+const isTooLarge = ({ dataset: { least, high } }) => Number(least) > innerWidth - AROUND || Number(high) > innerHeight - FITTED.above;
+const fitsWell = figure => isTooLarge(figure) && CHIP_LETTERS * Number(figure.dataset.fit) >= FITTED.letters;
 const MANY_EDGES = 20; // with more than these, an execution is drawn with the edges at what its condition names
 
-/** The cores that are drawn: all of a few, and of many those that have an event, unless all are wanted. */
+/** The cores that are drawn: of many those that have an event, unless all are wanted. */
 function drawnCores(programs, edges, isAll) {
   const cores = programs.map((_, core) => core), used = new Set(eventsOf(edges).map(({ core }) => core));
   return isAll || programs.length <= MANY_CORES ? cores : cores.filter(core => used.has(core));
@@ -112,7 +113,7 @@ function drawingOf(layout, edges) {
   return { layout, ways, ...chipsOf(layout, edges, ways) };
 }
 
-/** The lanes in which chips cover least, and of such the narrowest: up to what is too wide for the window, if in any all is clear. */
+/** The narrowest lanes in which chips cover least: up to what is too wide for the window, if in any all is clear. */
 function narrowDrawing(programs, edges, best = null, added = 0) {
   const drawing = drawingOf(layOutEvents(programs, edges, true, added), edges), isWide = NARROW.smaller * drawing.layout.width > innerWidth - AROUND;
   const better = best === null || (drawing.cost < best.cost && (drawing.cost === 0 || !isWide)) ? drawing : best;
@@ -121,13 +122,13 @@ function narrowDrawing(programs, edges, best = null, added = 0) {
 
 const GROWN = { most: 1.8, width: 0.48, height: 0.6, taught: 0.3 };
 
-/** By how much a picture is larger where the window has room for it, in parts of its measures. */
+/** By how much a picture is larger where the window has room for it. */
 function grownBy({ width, height }) {
   const room = Math.min(GROWN.most, GROWN.width * innerWidth / width, (lesson.told === null ? GROWN.height : GROWN.taught) * innerHeight / height);
   return Math.max(1, room);
 }
 
-/** Edges over programs, as a figure of this name. Where there is less room the picture is made smaller, and at last scrolled. */
+/** Edges over programs, as a figure of this name, made smaller where there is less room, and at last scrolled. */
 function drawEdges(programs, edges, name, isAll = false) {
   const cores = drawnCores(programs, edges, isAll), shown = cores.map(core => programs[core]);
   const laid = edges.map(edge => ({ ...edge, from: inLane(cores, edge.from), to: inLane(cores, edge.to) }));
@@ -139,7 +140,8 @@ function drawEdges(programs, edges, name, isAll = false) {
     ...edges.map((_, at) => drawLetters(chips[at], edges, at, isNarrow)));
   const least = (isNarrow ? NARROW : EVENTS).smaller * layout.width;
   picture.style.width = `max(100%, ${least}px)`;
-  const figure = html('figure', { tabindex: 0, 'aria-label': name, class: isNarrow ? 'narrow' : '', 'data-least': least, 'data-high': layout.height * Math.min(1, Math.max(least, innerWidth - AROUND) / layout.width) }, picture);
+  const fit = Math.min((innerWidth - AROUND) / layout.width, (innerHeight - FITTED.above) / layout.height);
+  const figure = html('figure', { tabindex: 0, 'aria-label': name, class: isNarrow ? 'narrow' : '', 'data-least': least, 'data-fit': fit, 'data-high': layout.height * Math.min(1, Math.max(least, innerWidth - AROUND) / layout.width) }, picture);
   figure.style.flex = `0 1 ${grownBy(layout) * layout.width}px`; // in a lecture it takes the whole width
   return figure;
 }
@@ -153,41 +155,45 @@ function relationList(edges, isNarrow, arrow) {
   return html('ul', { class: 'small relations', 'aria-label': 'Relations' }, html('li', {}, `Arrow: ${arrow}must be before.`), ...used.map(item));
 }
 
-/** The edges of an execution that matter for what a condition names: those at the last load into each of its registers, and at the last write
- * to each of its locations. All, where these are none. */
-function askedEdges(programs, edges, places, coherence) {
+/** What a condition names: the last loads into its registers, and the last writes to its locations. */
+function askedPlaces(programs, places, coherence) {
   const lastInto = (core, register) => (programs[core] ?? []).findLastIndex(text => writtenBy(text).includes(register));
   const lastTo = location => (coherence[location] ?? []).slice(-1).map(text => text.split(' ')[0]);
-  const wanted = places.flatMap(({ core, register, location }) => (location === undefined ? [`P${core}:${lastInto(core, register)}`] : lastTo(location)));
-  const found = edges.filter(({ from, to }) => [from, to].some(text => wanted.includes(text.split(' ')[0])));
-  return found.length > 0 ? found : edges;
+  return places.flatMap(({ core, register, location }) => (location === undefined ? [`P${core}:${lastInto(core, register)}`] : lastTo(location)));
 }
 
-/** A cycle or an execution as `panelOf` draws it: at first without what doesn't matter, with boxes that show all and fit the screen. */
+/** Whether an edge begins or ends at a place of a program. */
+const isAt = ({ from, to }, place) => [from, to].some(text => text.split(' ')[0] === place);
+
+/** The edges at what is asked for, in its order. */
+const askedEdges = (edges, wanted) => [...new Set(wanted.flatMap(place => edges.filter(edge => isAt(edge, place))))];
+
+/** A cycle or an execution as `panelOf` draws it, first what matters, with boxes that show all and fit the screen. */
 function drawExecution(programs, edges, few, panelOf) {
   const isWhole = drawnCores(programs, few, false).length === programs.length, fit = html('input', { type: 'checkbox' });
-  const draw = isAll => {
+  const draw = (isAll, isAsked) => {
     sheet.cycle = panelOf(isAll ? edges : few, isAll);
+    if (!isAsked) fit.checked = fitsWell(sheet.cycle.picture);
     sheet.cycle.picture.classList.toggle('fits', fit.checked);
     return sheet.cycle.element;
   };
-  const drawn = drawEdges(programs, edges, '', true), isLarge = isTooWide(drawn) || isTooHigh(drawn);
+  const isLarge = isTooLarge(drawEdges(programs, edges, '', true));
   if (few.length === edges.length && isWhole && !isLarge) return draw(true);
   const left = few.length < edges.length ? `Drawn are ${few.length} of ${edges.length} arrows, those at what is asked for.` : isWhole ? '' : 'Cores without an arrow are left out.';
   const box = html('input', { type: 'checkbox' }), place = html('div', {}, draw(false));
   const said = html('span', {}, left), label = (input, text) => html('label', {}, input, text);
   const all = left !== '' ? [said, label(box, ' Draw all')] : [], fits = isLarge ? [label(fit, ' Fit the screen')] : [];
   const words = html('p', { class: 'buttons small' }, ...all, ...fits);
-  words.addEventListener('change', () => {
+  words.addEventListener('change', ({ target }) => {
     const { shown } = sheet.cycle;
-    place.replaceChildren(draw(box.checked));
+    place.replaceChildren(draw(box.checked, target === fit));
     sheet.cycle.show(shown);
     putText(said, box.checked ? `Drawn are all ${edges.length} arrows.` : left);
   });
   return html('div', { class: 'drawn-part' }, words, place);
 }
 
-/** A cycle, drawn and told edge by edge; or an execution: its cycle, then each other edge alone, and at last all. */
+/** A cycle, edge by edge; or an execution: its cycle, then each other edge alone, and at last all. */
 class CyclePanel {
   /** `end`: what the cycle comes to; `closed`: how many edges are the cycle; `isAll`: whether all cores are drawn; `arrow`: when arrows hold. */
   constructor(programs, cycle, { end, name = `A cycle of ${cycle.length} edges`, closed = cycle.length, isAll, arrow = '' }) {
@@ -208,7 +214,12 @@ class CyclePanel {
     new ResizeObserver(() => this.seeHeight()).observe(picture);
     for (const kind of ['pointerover', 'focusin']) this.element.addEventListener(kind, ({ target }) => this.point(target));
     this.element.addEventListener('pointerleave', () => this.point(document.activeElement));
-    this.show(1);
+    this.show(0);
+  }
+
+  /** The first step: at 0 nothing is faint. */
+  get least() {
+    return this.last > 1 && !isLecture() && lesson.told === null ? 0 : 1;
   }
 
   /** How many steps there are. */
@@ -217,7 +228,7 @@ class CyclePanel {
     return length > 1 && this.closed < length ? length + 1 : length;
   }
 
-  /** Marks an arrow and its sentence, while one of them has the pointer or the focus. */
+  /** Marks an arrow and its sentence, while one has the pointer or the focus. */
   point(target) {
     const { edge, letters, arrow } = target.closest('[data-edge], [data-letters], [data-arrow]')?.dataset ?? {}, at = edge ?? letters ?? arrow;
     for (const part of this.element.querySelectorAll('[data-edge], [data-letters], [data-arrow]')) {
@@ -225,7 +236,7 @@ class CyclePanel {
     }
   }
 
-  /** Scrolls the picture to the arrow that is shown last, where it goes on to the side. */
+  /** Scrolls the picture to the arrow that is shown, where it goes on to the side. */
   keepInSight() {
     const arrow = this.picture.querySelector('[data-edge].now'), { left, right } = this.picture.getBoundingClientRect();
     if (!arrow || this.picture.scrollWidth <= this.picture.clientWidth) return;
@@ -236,14 +247,18 @@ class CyclePanel {
   move(way) {
     const next = isLecture() && this.shown >= this.closed ? this.last : this.shown + 1; // there the cycle is what counts
     this.show({ first: 1, back: this.shown - 1, next, all: this.last }[way]);
-    if (this.element.matches('.tall') && this.shown <= this.cycle.length) this.scrollTo(this.shown - 1);
+    if (this.shown > this.cycle.length) return;
+    if (this.element.matches('.tall')) return this.scrollTo(this.shown - 1);
+    const { top, bottom } = this.picture.querySelector('[data-letters].now').getBoundingClientRect();
+    if (this.least === 0 && (top < 0 || bottom > innerHeight)) scrollBy(0, this.picture.getBoundingClientRect().bottom - innerHeight + CLEAR);
   }
 
-  /** Notes whether the picture is higher than the window, and whether the list then stands beside it. */
+  /** Notes whether the picture is higher than the window, and whether the list stands beside it, or too far below. */
   seeHeight() {
-    const { offsetTop, offsetHeight } = this.picture, isTall = offsetHeight > innerHeight - this.bar.offsetHeight;
+    const { offsetTop, offsetHeight } = this.picture, isTall = offsetHeight > innerHeight - this.bar.offsetHeight, isBeside = this.told.offsetTop < offsetTop + offsetHeight;
     this.element.classList.toggle('tall', isTall);
-    this.told.classList.toggle('boxed', isTall && this.told.offsetTop < offsetTop + offsetHeight);
+    this.element.classList.toggle('far-list', !isBeside && this.element.offsetHeight > innerHeight);
+    this.told.classList.toggle('boxed', isTall && isBeside);
   }
 
   /** Scrolls the page to an arrow, and the list to its sentence. From then on the bar stays at the window's top. */
@@ -255,17 +270,17 @@ class CyclePanel {
     this.told.scrollTop += boxOf(item).top - boxOf(this.told).top - (this.told.clientHeight - item.offsetHeight) / 2;
   }
 
-  /** What the step says: in sight where the sentences beside the picture aren't, and for readers of screens. */
+  /** What the step says, where the sentences aren't beside the picture, and for readers of screens. */
   say(edge) {
     const isEnd = this.end.textContent !== '' && (this.shown === this.closed || this.shown === this.last);
-    const said = edge === undefined ? ['All arrows that are drawn.'] : [`${arrowName(this.shown - 1)} `, chipOf(edge.relation, this.isNarrow), ` ${edgeSentence(edge)}`,
+    const said = edge === undefined ? [this.shown === 0 ? '“Next arrow” tells them one by one.' : 'All arrows that are drawn.'] : [`${arrowName(this.shown - 1)} `, chipOf(edge.relation, this.isNarrow), ` ${edgeSentence(edge)}`,
       html('span', { class: 'faint' }, ` ${meaningOf(edge.relation, this.cycle)}`)];
     this.said.replaceChildren(...said, ...(isEnd ? [' ', html('strong', {}, this.end.textContent)] : []));
   }
 
   show(step) {
-    const shown = this.shown = Math.min(this.last, Math.max(1, step)), isAll = shown === this.last, isAlone = shown > this.closed;
-    const isNow = at => this.last > 1 && at === shown - 1, isLater = at => !isAll && (isAlone ? !isNow(at) : at >= shown);
+    const shown = this.shown = Math.min(this.last, Math.max(this.least, step)), isAll = shown === this.last, isAlone = shown > this.closed;
+    const isNow = at => this.last > 1 && at === shown - 1, isLater = at => !isAll && shown > 0 && (isAlone ? !isNow(at) : at >= shown);
     for (const drawn of ['[data-edge]', '[data-letters]', '[data-arrow]']) {
       this.element.querySelectorAll(drawn).forEach((part, at) => {
         part.classList.toggle('later', isLater(at));
@@ -276,12 +291,14 @@ class CyclePanel {
       if (isNow(at)) item.setAttribute('aria-current', 'step');
       else item.removeAttribute('aria-current');
     });
-    this.end.classList.toggle('later', shown < this.closed);
+    this.end.classList.toggle('later', shown > 0 && shown < this.closed);
     this.element.classList.toggle('untold', shown < (this.closed || this.last));
-    this.count.textContent = `Step ${shown} of ${this.last}`;
+    const { length } = this.cycle;
+    this.count.textContent = shown === 0 ? `${length} arrows` : shown > length ? `All ${length} arrows` : `Arrow ${shown} of ${length}`;
     this.say(this.cycle[shown - 1]);
     this.keepInSight();
-    const isOff = { first: shown === 1, back: shown === 1, next: isAll, all: isAll };
+    const isOff = { first: shown < 2, back: shown < 2, next: isAll, all: isAll || shown === 0 };
     for (const button of this.buttons) putOff(button, isOff[button.dataset.edges]);
+    showFoot();
   }
 }

@@ -100,7 +100,9 @@ function refuseStall({ histories: [history], count }, word) {
   putDrive({ core: coreOfChoice(word) });
   markKeyed(false);
   for (const panel of drawn.panels) panel.offerStall(word);
-  sayOfDriving(`${why} So ${word} does nothing. “stall” makes it all the same.`);
+  const said = `${why} So ${word} does nothing.`;
+  if (lesson.told === null) sayOfDriving(`${said} “stall” makes it all the same.`);
+  else sayInLesson(said);
 }
 
 /** Where no step came of a choice: leaves it out, with all that would come after it, and keeps what is said of it. */
@@ -236,6 +238,7 @@ const DRIVE_KEYS = {
 /** What a key does to the machine that is driven: whether it did anything. */
 function driveByKey(key) {
   if (!byId('letter-keys').checked) return false;
+  if (isAsked() && answerByKey(key)) return true;
   if (/^[0-7]$/.test(key) && Number(key) < firstHistory().cores) {
     putDrive({ core: Number(key) });
     markKeyed(true);

@@ -11,7 +11,7 @@ function showDrive() {
   const step = history.steps[count - 1];
   const before = step && history.machineAfter(count - 1);
   const said = step ? `${step.choice}: ${stepSentences(step, before, history.programs, isPlain).join(' ')}` : count === 0 ? startSentence(history) : 'The first machine\'s test has ended.';
-  byId('sentence').textContent = lessonTells() ? '' : ofFirst(history, step ? ', ' : ': ') + said;
+  byId('sentence').textContent = lesson.told ? '' : ofFirst(history, step ? ', ' : ': ') + said;
   byId('count').textContent = `${choicesSaid(count)} made`;
   showMoves();
   showBranches();
@@ -21,6 +21,7 @@ function showDrive() {
   showEnd(history);
   showTask(history, count, shown.run);
   keepAddressSoon();
+  showFoot();
   keepInSight();
 }
 
@@ -59,13 +60,23 @@ function markKeyed(isAsked) {
   for (const { panels } of drawn.panels) panels.forEach(({ element }, core) => element.classList.toggle('chosen', core === drive.core));
 }
 
+/** How a lecture's picture grows: by what at least and at most, in which part of the window's height, and by how wide its lanes have to be. */
+const LECTURED = { least: 1, most: 2.2, high: 0.54, lanes: 492, lane: 122 };
 const SCROLLBAR = 17; // pixels, at most
-const frameMost = () => (!isLecture() ? 0.68 / drawn.picture.zoom : innerWidth > 1500 ? 0.4 : 0.44); // of the window's height, as the style has it
+const frameMost = () => (isLecture() ? LECTURED.high : 0.68) / drawn.picture.zoom; // of the window's height, as the style has it
 
 /** By how much the picture is larger than it is drawn, as it is in a lecture and in a large window. */
 const zoomOfPicture = () => Number(getComputedStyle(byId('frame')).zoom) || 1;
 
+/** In a lecture the picture is as large as its rows and its lanes have room. */
+function growPicture({ cores, programs }) {
+  const { least, most, high, lanes, lane } = LECTURED, rows = HEAD + mostRows(programs) * ROW + STRIP, { clientWidth } = byId('frame').parentElement;
+  const room = Math.min(most, high * innerHeight / rows, clientWidth / (GUTTER + 2 + SCROLLBAR + Math.max(lanes, cores * lane)));
+  byId('run').style.setProperty('--zoom', Math.max(least, room).toFixed(2));
+}
+
 function makePicture() {
+  if (isLecture()) growPicture(firstHistory());
   const room = byId('frame').parentElement.clientWidth / zoomOfPicture() - SCROLLBAR;
   const picture = drawn.picture = Object.assign(new GrowingPicture(firstHistory(), room), { room, zoom: zoomOfPicture() });
   shown.layout = picture.layout;

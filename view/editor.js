@@ -13,7 +13,7 @@ function inputOf(command) {
   return `${ended}${DIVIDING_LINE}\n${readsOrder(command) ? byId('given').value : choicesText()}`;
 }
 
-/** The parts of a whole input: what is before the first dividing line, and what is after it, or null. */
+/** What is before the first dividing line of a whole input, and what is after it, or null. */
 function partsOf(text) {
   const lines = text.split('\n'), at = lines.findIndex(line => line.replace(/\r$/, '') === DIVIDING_LINE);
   if (at < 0) return { test: text, rest: null };
@@ -21,7 +21,7 @@ function partsOf(text) {
   return { test: at > 0 ? test + '\n' : test, rest: lines.slice(at + 1).join('\n') };
 }
 
-/** Puts a whole input into the fields: its second part is an order where it has a line `Order`, and choices where not. */
+/** Puts a whole input into the fields: its second part is an order where it has a line `Order`, else choices. */
 function putInput(text) {
   const { test, rest } = partsOf(text.replace(/\r\n/g, '\n'));
   const isOrder = rest !== null && /^(Order|Endorder\b.*)$/m.test(rest);
@@ -68,18 +68,17 @@ function seeChoices(isInSight) {
 
 // A field that marks a line has a column of numbers and, under its text, a band for the line that is marked.
 
-const WIDE_LINE = 78; // letters, from which on a test has the whole width
+const wideLine = () => Math.max(78, innerWidth / 16.5); // letters, from which on a test has the whole width
 
 const ROWS = { least: 12, most: 18 }; // of the field of a test, which grows with it
 
-/** Gives a test with long lines, as one of many cores has, the whole width. The list under it folds then. */
+/** Gives a test with long lines the whole width. The list under it folds then. */
 function showWidth() {
   const { classList } = byId('test-part'), wasWide = classList.contains('wide');
-  if (classList.toggle('wide', byId('test').value.split('\n').some(line => line.length > WIDE_LINE)) && !wasWide) byId('library').open = false;
+  if (classList.toggle('wide', byId('test').value.split('\n').some(line => line.length > wideLine())) && !wasWide) byId('library').open = false;
 }
 
-/** Draws the numbers of a field's lines, and marks this one; null marks none. Where they are drawn so already it does nothing, since to
- * place them the browser has to lay the page out. */
+/** Draws the numbers of a field's lines, and marks this one; null marks none. It does nothing where they are drawn so already. */
 function drawLines(id, marked) {
   const field = byId(id), [gutter, band] = [byId(id + '-lines'), byId(id + '-band')];
   if (id === 'test') showWidth();
@@ -105,7 +104,7 @@ function placeLines(id) {
   band.style.setProperty('--left', `${-field.scrollLeft}px`);
 }
 
-/** Where a refusal is: the field and its line, or the field and its word. Of an open bracket the hint has its line. */
+/** Where a refusal is: the field, and its line or word. Of an open bracket the hint has its line. */
 function placeOfRefusal(line, hint = '') {
   const found = /^Refused (test|order) line (\d+) |^Refused choices word (\d+) /.exec(line);
   if (!found) return null;
@@ -123,7 +122,7 @@ function cellsOf(line) {
   });
 }
 
-/** Of a test's line that is refused the cell at fault, where the hint begins with one cell of it, or with a word that one cell alone has; else null. */
+/** Of a line that is refused the cell at fault: the hint begins with it, or with a word that it alone has; else null. */
 function cellAtFault(line, hint) {
   if (/^X86|[{}]/.test(line) || !/[|;]/.test(line)) return null; // no row of programs
   const said = hint.replace(/^hint: (line \d+: )?'?/, ''), [word] = said.split(/[\s:,]/), cells = cellsOf(line).filter(({ text }) => text !== '');
@@ -156,7 +155,7 @@ function plainChoice(number, name) {
   return why ? `${choicesText().includes('seed') ? 'Word' : 'Choice'} ${number}, ${word}: ${why}.` : '';
 }
 
-/** What is refused, in plain words: the line, the core whose cell is at fault where the hint tells it, and why, by the hint where there is one. */
+/** What is refused, in plain words: the line, the core whose cell is at fault, and why, by the hint where there is one. */
 function plainRefusal(place, cell, line, hint) {
   const name = line.trim().split(' ').at(-1), why = pageHint(hint).replace(/^hint: (line \d+: )?/, '') || FAULTS[name];
   if (place?.word) return plainChoice(place.word, name);
@@ -173,7 +172,7 @@ function focusRefusal() {
   for (const part of [byId('told'), band]) part.scrollIntoView({ block: 'nearest' });
 }
 
-/** Hints that name what is certain to be meant, each with its line first, then with what is changed there, and to what. */
+/** Hints that name what is certain to be meant, with what is changed, and to what. */
 const CELL = /^'?(.+?)'?(?=:| is).*(?:: write|one step:) ((?:LOCK )?[A-Z]+(?: \S+)?)\s*$/, SIGNS = { '&': '/\\', '|': '\\/', '=': '=' };
 const REPAIRS = [
   [/^(\w+) (?:is no register|has 64 bits).*write (\w+)\s*$/, ([, word, other]) => [new RegExp(`\\b${word}\\b`, 'gi'), other]],
@@ -182,15 +181,50 @@ const REPAIRS = [
 ];
 const MOST_REPAIRED = 256; // as many cells as a test has
 
-/** A test with what its hint says in each such place of its line, and how many these are; else null. */
+/** A compiler's listing as a test: what follows each label is a core's. Null where it isn't plain. */
+function listingAsTest(text) {
+  const cores = [[]], left = /^$|^\.(?!L\w*:)|^(ret|endbr64|nop|leave|push|pop)|^mov.*(bp\W.*sp|sp\W.*bp)/i;
+  for (const line of text.split('\n').map(each => each.replace(/(#|;|\/\/).*/, '').trim()).filter(each => !left.test(each))) {
+    if (/^[^\s.].*:$/.test(line)) cores.push([]);
+    else if (cores.at(-1).push(line) && !/^[a-z]/i.test(line)) return null;
+  }
+  const programs = cores.filter(core => core.length > 0), most = Math.max(...programs.map(core => core.length));
+  const row = at => ` ${programs.map((core, number) => (at < 0 ? `P${number}` : core[at] ?? '')).join(' | ')} ;\n`;
+  return most > 0 ? { text: `X86 pasted\n{ }\n${Array.from({ length: most + 1 }, (_, at) => row(at - 1)).join('')}`, count: 1, isOther: true, said: `a test of ${programs.length} core${programs.length === 1 ? '' : 's'}` } : null;
+}
+
+const PLAIN_REGISTERS = ['EAX', 'EBX', 'ECX', 'EDX', 'ESI', 'EDI'];
+
+/** A test in which a register as R8D is one that its core doesn't use, in the condition too; null where none is left. */
+function renamed(lines, at, name) {
+  const [first, last] = [lines.findIndex(line => /^\s*P\d+\s*[|;]/.test(line)), lines.findLastIndex(line => /;\s*$/.test(line))];
+  const named = new RegExp(`\\b${name}\\b`, 'gi'), core = cellsOf(lines[at]).findIndex(({ text }) => text.search(named) >= 0), places = new RegExp(`\\b${core}:\\w+`, 'g');
+  let changed = '';
+  const write = become => lines.map((line, row) => (row > first && row <= last ? line.split('|').map((part, column) => (column === core ? become(part) : part)).join('|') : line.replace(places, become))).join('\n');
+  write(part => { changed += part; return part; });
+  const free = PLAIN_REGISTERS.find(each => !new RegExp(`\\b[ER]?${each.slice(1)}\\b`, 'i').test(changed));
+  return free && core >= 0 ? { text: write(part => part.replace(named, free)), count: changed.match(named).length, isOther: true, said: `P${core}: ${name} became ${free}` } : null;
+}
+
+/** A test with what its hint says in each such place of its line, how many these are, and what they became; else null. */
 function repaired(test, hint = '') {
   const [, number, said = ''] = /^hint: line (\d+): (.*)/.exec(hint) ?? [], at = number - (said.includes('cores in the line before') ? 2 : 1), lines = test.split('\n'), line = lines[at] ?? '';
+  if (said.startsWith('instructions alone')) return listingAsTest(test);
+  const [, foreign] = / is for (\w+): take/.exec(said) ?? [];
+  if (foreign) return renamed(lines, at, foreign);
   const [, cell, other] = CELL.exec(said) ?? [], cells = cellsOf(line).filter(({ text }) => text === cell), [pattern, change] = REPAIRS.find(each => each[0].test(said)) ?? [];
   const inCell = part => (part.trim() === cell ? part.replace(cell, () => other) : part), [from, to] = cells.length > 0 || !pattern ? [/[^|;]+/g, inCell] : change(pattern.exec(said));
   const count = cells.length || (pattern && line.match(from)?.length);
   if (!count) return null;
+  const [part] = cells.length > 0 ? [cell] : line.match(from), isOther = !part.toUpperCase().startsWith(other?.split(' ')[0]);
   lines[at] = line.replace(from, to);
-  return { text: lines.join('\n'), count };
+  return { text: lines.join('\n'), count, isOther, said: `line ${at + 1}: ${part.trim() === '' ? '; was added' : `${part.replace(/ +/g, ' ')} became ${part.replace(from, cells.length > 0 ? () => other : to)}`}` };
+}
+
+/** What places became, those first that have another instruction now. */
+function changesSaid(found) {
+  const [one, two, three, ...more] = found.toSorted((one, other) => Boolean(other.isOther) - Boolean(one.isOther)).map(({ said }) => said);
+  return `${[one, two, three].filter(Boolean).join('; ')}${more.length > 0 ? `; and ${more.length} more` : ''}. Undo takes all back. `;
 }
 
 /** A test whose programs have their columns aligned; as it is where a row isn't plain. */
@@ -204,17 +238,18 @@ function aligned(text) {
 /** Writes what is certain to be meant, up to a mistake that leaves a choice: one edit. */
 function writeRepairs() {
   const field = byId('test'), { options } = readSettings('run');
-  let count = 0, { hint } = bench.answer, { value: text } = field;
-  for (let found = repaired(text, hint); found !== null && count < MOST_REPAIRED; found = repaired(text, hint)) {
+  const changes = [];
+  let { hint } = bench.answer, { value: text } = field;
+  for (let found = repaired(text, hint); found !== null && changes.length < MOST_REPAIRED; found = repaired(text, hint)) {
     ({ text } = found);
-    count += found.count;
+    changes.push(found);
     ({ hint } = asked(options, text));
   }
   undoing.field = null;
   field.focus();
   field.select();
   document.execCommand('insertText', false, aligned(text)); // which the field can undo, too
-  const said = `Changed: ${count} place${count === 1 ? '' : 's'}. Undo takes all back. `, isRefused = bench.answer?.status === Tso.STATUS.refused;
+  const count = changes.reduce((sum, each) => sum + each.count, 0), said = `Changed: ${count} place${count === 1 ? '' : 's'}: ${changesSaid(changes)}`, isRefused = bench.answer?.status === Tso.STATUS.refused;
   if (isRefused) focusRefusal();
   else notice.said = said + noticeOf(inputOf('sweep')); // while the test is the same
   putText(document.querySelector('.noticed'), isRefused ? said : notice.said);
@@ -230,6 +265,7 @@ function markRefusal({ text: line, hint }) {
   for (const id of ['test', 'choices', 'given']) byId(id).setAttribute('aria-invalid', String(place?.field === id));
   byId('remove-choices').hidden = !place?.word;
   byId('write-so').hidden = place?.field !== 'test' || repaired(byId('test').value, hint) === null;
+  byId('write-so').textContent = hint?.includes('instructions alone') ? 'Write it as a test' : 'Write it so';
 }
 
 /** Removes choices that are refused, which shows the machine again. */

@@ -122,9 +122,9 @@ function taskWords(quantifier, proposition, isDone, can) {
 const lectured = { key: null }; // of which test the question stands there
 
 /** What a lecture asks, in short, over its machine. */
-function showQuestion() {
+function showQuestion(asked = drive.test) {
   if (!isLecture()) return;
-  const test = isExercise() || lesson.told !== null ? '' : drive.test, key = `${test}${byId('run').className}`;
+  const test = isExercise() || lesson.told !== null ? '' : asked, key = `${test}${byId('run').className}`;
   if (lectured.key !== key) putText(byId('asked-line'), test === '' ? '' : proposedQuestion(test).replace(/^.*: w/, 'W'));
   lectured.key = key;
 }

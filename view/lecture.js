@@ -7,7 +7,7 @@ const isLecture = () => document.documentElement.classList.contains('lecture');
 /** Says on a button by which the mode begins or ends which of the two it does. */
 function nameLecture(button) {
   setAll(button, { 'aria-pressed': String(isLecture()) });
-  button.textContent = isLecture() ? 'End the lecture' : 'For a lecture';
+  button.textContent = isLecture() ? 'End the lecture' : taught.list.length > 0 ? 'Start the lecture' : 'For a lecture';
   return button;
 }
 
@@ -17,18 +17,23 @@ function putLecture(isOn) {
   document.documentElement.classList.toggle('lecture', isOn);
   document.querySelectorAll('[data-lecture]').forEach(nameLecture);
   if (isOn) byId('test-part').open = byId('about').open = false;
+  showTestLine(currentCommand());
   if (shown.run || drive.isOn) redraw();
   if (drive.isOn) showDrive();
+  sheet.cycle?.show(sheet.cycle.shown); // in a lecture it begins with its first arrow
+  if (sheet.cycle && !drive.isOn) showQuestion(sheet.test);
+  noteVisit();
   keepList();
   drawBar();
   followShown();
   scrollTo(0, 0);
 }
 
-/** Begins or ends the mode, a whole run from its start. Where the browser gives no whole screen, all else of it is the same. */
+/** Begins or ends the mode, a list at its first test, and a whole run from its start. Where the browser gives no whole screen, all else of it is the same. */
 async function toggleLecture() {
   const isOn = !isLecture();
   putLecture(isOn);
+  if (isOn && taught.list.length > 0 && lesson.told === null) openListed(0);
   if (isOn && drive.isOn && lesson.told === null && drive.count === drive.words.length) goTo(0);
   try {
     if (isOn) await document.documentElement.requestFullscreen();
@@ -49,7 +54,7 @@ function openLecture(at = 0) {
 /** What a clicker's keys do to a lesson: they go through its steps, make its choices, and give its answers. */
 function clickLesson(isOn) {
   const { at, isDone } = lesson, { do: word, ask: question, right, answers, show: shows } = stepNow();
-  if (!isOn) return at > 0 && enterStep(at - 1);
+  if (!isOn) return (at > 0 || lesson.isStrayed) && goBack();
   if (isDone) return goOn();
   if (word !== undefined) return makeChoice(word);
   return question === undefined ? shows !== undefined && showInLesson() : answerLesson(right ?? answers[0]);
@@ -58,47 +63,80 @@ function clickLesson(isOn) {
 const SCROLLED = 0.8; // of the window's height, where a clicker has nothing to step
 const BELOW = 16; // pixels below a sheet that needn't be in sight
 
-const listedNext = () => taught.list[playlist.at + 1];
-
-/** What a clicker comes to before the start of a sheet: the test before it in the list, or the run of which the sheet is. */
-const clickBefore = () => (isOfEntry() ? openListed(playlist.at - 1, true) : backToRun());
-
 /** Whether what is shown was asked for in the middle of a run. */
 const isInRun = () => !isOfEntry() && ownRun.kept !== null && ownRun.kept.count < countChoices(ownRun.kept.choices);
 
-/** What comes after a sheet: the rest of its run, or the next test of the list. */
-const hasAfter = () => isInRun() || listedNext() !== undefined;
-const clickAfter = () => (isInRun() ? backToRun() : openListed(playlist.at + 1));
+const drawnCycle = () => (sheet.cycle?.last > 1 && sheet.cycle.element.isConnected && !drive.isOn ? sheet.cycle : null);
 
-/** What a clicker does to a sheet that isn't a machine: it scrolls, and after its end and before its start comes what is there. */
-function clickSheet(isOn) {
-  const isEnd = scrollY + innerHeight >= document.documentElement.scrollHeight - BELOW;
-  if (isOn && isEnd && hasAfter()) return clickAfter();
-  if (!isOn && scrollY === 0) return clickBefore();
-  return scrollBy({ top: (isOn ? SCROLLED : -SCROLLED) * innerHeight });
+/** Whether why comes after a run: where no list shows it, and no caches are shown, of which it tells nothing. */
+const isWhyNext = () => drive.isOn && !isOfEntry() && firstHistory().proposition !== null && !showsCaches(drivenMachines()) && !isExercise() &&
+  document.querySelector('#commands [value=why]') !== null;
+
+/** What PageDown does next, as the foot says it, and how it is done: a step of what is shown, or what comes after its end. */
+function onward() {
+  const cycle = drawnCycle(), { isOn, count, words } = drive, at = placeNow() + 1, next = toGoThrough()[at];
+  if (cycle && cycle.shown < cycle.last) return [cycle.shown < cycle.closed ? `arrow ${cycle.shown + 1} of ${cycle.closed}` : 'all arrows', () => cycle.move('next')];
+  if (lesson.told !== null) return ['the lesson goes on', () => clickLesson(true)];
+  if (isOn && count < words.length) return [`step ${count + 1} of ${words.length}`, () => moveDriven('forward')];
+  if (isOn && !isAtEnd(drive) && otherBranches().length > 0) return ['back to the prepared run', () => takeBranch(0)];
+  if (!isOn && !cycle && scrollY + innerHeight < document.documentElement.scrollHeight - BELOW) return ['scrolls on', () => scrollBy(0, SCROLLED * innerHeight)];
+  if (!isOn && isInRun()) return ['the run goes on', backToRun];
+  if (isWhyNext()) return ['the reason, by arrows', askWhy];
+  return next && [saidOfNext(next), () => openListed(at)];
 }
 
-/** Where no choice is known: says what to press. By a second press come the choices that were left, or the next test of the list. */
-function clickUnknown() {
-  const [left] = otherBranches(), next = listedNext(), onward = left ? 'back to the prepared run' : next && `the next test, ${next.name}`;
-  const known = `No ${drive.count === 0 ? '' : 'more '}choices yet, so PageDown has nothing to step`;
-  const said = `${known}: press a step or a drain of a core.${onward ? ` PageDown once more: ${onward}.` : ''}`;
-  if (!onward || byId('sentence').textContent !== said) return sayOfDriving(said);
-  return left ? takeBranch(0) : openListed(playlist.at + 1);
+/** What PageUp does: a step back, or what was before. */
+function backward() {
+  const cycle = drawnCycle();
+  if (cycle?.shown > 1) return cycle.move('back');
+  if (lesson.told !== null) return clickLesson(false);
+  if (drive.isOn && drive.count > 0) return moveDriven('back');
+  if (scrollY > 0 && !drive.isOn) return scrollBy(0, -SCROLLED * innerHeight);
+  return drive.isOn || isOfEntry() ? openListed(placeBefore(), true) : backToRun();
 }
 
-/** Steps the cycle that is drawn, the lesson, or the machine; after the end of either comes the next test of the list. */
+/** The next entry by its test, or by what it shows of the same test: so no name tells an answer. */
+function saidOfNext({ name }) {
+  const now = toGoThrough()[placeNow()], [test, kind] = name.split(': ');
+  return now && kind && plainName(now) === test ? kind : `next test: ${test}`;
+}
+
+function footSaid() {
+  const next = onward();
+  return next ? `PageDown: ${next[0]}` : 'The end: PageUp goes back';
+}
+
+const showFoot = () => isLecture() && playlist.where !== footSaid() && drawBar();
+
 function click(isOn) {
-  const { cycle } = sheet, isDrawn = cycle?.last > 1 && cycle.element.isConnected && !drive.isOn, isCycleOver = isDrawn && isOn && cycle.shown === cycle.last;
-  if (isDrawn && !isOn && cycle.shown === 1 && lesson.told === null) return clickSheet(isOn);
-  if (isDrawn && !(isCycleOver && (lesson.told !== null || hasAfter()))) return cycle.move(isOn ? 'next' : 'back');
-  if (lesson.told !== null) return clickLesson(isOn);
-  if (isCycleOver) return clickAfter();
-  if (!drive.isOn) return clickSheet(isOn);
-  const isLast = isOn && drive.count === drive.words.length;
-  if (isLast) return isAtEnd(drive) ? openListed(playlist.at + 1) : clickUnknown();
-  if (!isOn && drive.count === 0) return openListed(playlist.at - 1, true);
-  return moveDriven(isOn ? 'forward' : 'back');
+  if (isOn) onward()?.[1]();
+  else backward();
+  showFoot();
+}
+
+// Without a list a lecture goes through the tests of this visit, each with its last run, and then those with which the library begins.
+
+const visits = new Map();
+
+/** Notes the test that is shown, but none that is being written. */
+function noteVisit() {
+  if (drive.isOn && lesson.told === null && !isExercise() && document.activeElement !== byId('test')) visits.set(testName(), { address: currentAddress() });
+}
+
+function offered() {
+  const all = new Map([...visits, ...STARTS.map(file => [nameIn(LIBRARY.find(each => each.file === file)?.text), { file }]).filter(([test]) => test && !visits.has(test))]);
+  return [...all].map(([test, entry]) => ({ test, name: TITLES[test] ?? test, ...entry }));
+}
+
+const toGoThrough = () => (taught.list.length > 0 || !isLecture() ? taught.list : offered());
+const placeNow = () => (taught.list.length > 0 ? playlist.at : offered().findIndex(({ test }) => test === testName()));
+const placeBefore = () => placeNow() - (taught.list.length === 0 || isOfEntry(false) ? 1 : 0);
+
+function openOffered({ file, address }, isAtEnd) {
+  if (file) takeFromLibrary(file);
+  else openTest(address);
+  if (drive.isOn) goTo(isAtEnd ? drive.words.length : 0);
+  scrollTo(0, 0);
 }
 
 document.addEventListener('keydown', event => {
@@ -107,10 +145,12 @@ document.addEventListener('keydown', event => {
   byId('test-part').open = false; // what is edited is out of the hall's sight again
   click(event.key === 'PageDown');
 });
+for (const kind of ['scroll', 'click']) document.addEventListener(kind, showFoot, { passive: true });
 document.addEventListener('fullscreenchange', () => {
   if (!document.fullscreenElement && isLecture()) putLecture(false);
 });
 document.addEventListener('click', ({ target, detail }) => {
+  if (target.matches('[data-onward]')) click(true);
   if (!target.matches('[data-lecture]')) return;
   toggleLecture();
   if (detail > 0) target.blur(); // it was pressed by a pointer: so no key of a clicker presses it again

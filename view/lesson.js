@@ -2,9 +2,10 @@
 
 // A lesson that runs: its steps are told, asked, and done on the machine. The lessons themselves are data (lessons.js, taught.js).
 
-const IN_LESSON = Object.freeze({ told: null, at: 0, isDone: false, answer: null, refused: '' });
+const IN_LESSON = Object.freeze({ told: null, at: 0, isDone: false, answer: null, before: '', refused: '', isStrayed: false, views: '' });
 
-/** The lesson that runs (`told`, or null), its step, whether what that wants is done, what was answered, and what is said of a wrong press. */
+/** The lesson that runs (`told`, or null), its step, whether what that wants is done, what was answered, what came `before` where it went on by itself,
+ * what is said of a wrong press, whether the reader went another way, and what is shown in place of the machine. */
 let lesson = IN_LESSON;
 
 const putLesson = changes => { lesson = Object.freeze({ ...lesson, ...changes }); };
@@ -12,26 +13,46 @@ const putLesson = changes => { lesson = Object.freeze({ ...lesson, ...changes })
 /** The lessons whose tests this machine reads. */
 const lessonsHere = () => LESSONS.filter(({ text }) => text === undefined || textsHere().some(entry => entry.file === text));
 const lessonNamed = name => lessonsHere().find(each => each.name === name);
-/** The lesson after the one that runs, where there is one. */
 const nextLesson = () => lessonsHere()[lessonsHere().indexOf(lesson.told) + 1];
 const stepNow = () => lesson.told.steps[lesson.at];
 
 /** The step at which a step's part begins: the last one up to it that has a test of its own, or the first. */
 const beginOf = (steps, at) => Math.max(0, steps.findLastIndex((step, each) => each <= at && step.test !== undefined));
 /** The place of a step, counted in its part. */
-function placeSaid(steps, at) {
+function showPlace({ steps }, at) {
   const begins = [0, ...steps.flatMap(({ test }, each) => (test !== undefined && each > 0 ? [each] : [])), steps.length];
-  const part = begins.findLastIndex(each => each <= at);
-  const of = begins.length > 2 ? `Part ${part + 1} of ${begins.length - 1}, s` : 'S';
-  return `${of}tep ${at - begins[part] + 1} of ${begins[part + 1] - begins[part]}`;
+  const part = begins.findLastIndex(each => each <= at), value = at - begins[part] + 1, max = begins[part + 1] - begins[part];
+  putText(byId('lesson-place'), `${begins.length > 2 ? `Part ${part + 1} of ${begins.length - 1}, s` : 'S'}tep ${value} of ${max}`);
+  setAll(byId('lesson-bar'), { value, max });
 }
 /** A choice as it is pressed, and what a step says: it names the button. */
 const pressWords = word => `${isDrain(word) ? 'drain' : 'step'} at P${coreOfChoice(word)}`;
-const keysSaid = ([core, way]) => (matchMedia('(pointer: coarse)').matches ? '' : ` (keys ${core} ${way})`);
-const saidAt = ({ say = '', do: word }) => (word === undefined || /press/i.test(say) ? say : `${say} Press ${pressWords(word)}${keysSaid(word)}.`.trim());
+const pressSaid = ({ say = '', do: word }) => (/press/i.test(say) ? [say] : [say && `${say} `, html('strong', {}, `Press ${pressWords(word)}`), ' ', html('kbd', {}, word)]);
 
 /** The choices that the steps before one make, on its test. */
 const choicesBefore = (steps, at) => steps.slice(beginOf(steps, at), at).flatMap(step => step.do ?? []);
+/** The choice that is awaited, or undefined. The next step's is told at once, and made in the place of Next. */
+function wantedNow() {
+  const { told, at, isDone, isStrayed, views } = lesson, { do: word, test } = told?.steps[at + isDone] ?? {};
+  return isStrayed || (isDone && (test !== undefined || views !== '')) ? undefined : word;
+}
+/** Whether a part ends here, with what was learned. */
+function isSum() {
+  const { told: { steps }, at, isDone } = lesson, next = steps[at + 1];
+  return isDone && steps[at].say !== undefined && steps[at].then === undefined && (!next || next.test !== undefined);
+}
+const isAsked = () => lesson.told !== null && !lesson.isDone && stepNow().ask !== undefined;
+
+/** What its part showed since the last choice, which stands in place of the machine. */
+function viewsAt(steps, at, isDone) {
+  const since = steps.slice(beginOf(steps, at), at + 1), shows = since.slice(since.findLastIndex(step => step.do !== undefined) + 1, isDone ? undefined : -1);
+  return shows.flatMap(step => step.show ?? []).join();
+}
+const isViewed = views => (/outcomes|why/.test(views) ? !drive.isOn && views.endsWith(currentCommand()) : drive.isOn && drive.histories.length > 2);
+/** Whether the machine stands where a step begins. */
+const isAtPlace = ({ told: { steps }, views, isStrayed, at: now }, at) => drive.isOn && views === '' && !isStrayed && beginOf(steps, at) === beginOf(steps, now) &&
+  drive.count === drive.words.length && drive.words.join() === choicesBefore(steps, at).join();
+
 /** What a step's machine is made of: the lesson, or the step's own test in its place. */
 function testOf(told, at) {
   const { test } = told.steps[beginOf(told.steps, at)];
@@ -46,19 +67,18 @@ const LESSON_SHOWS = {
   apart: { says: 'One word in a line', act: () => { settingOf('words').value = 1; keepPosition(answerNow); } },
 };
 
-/** Begins a lesson at a step. */
 function beginLesson(name, at = 0) {
   const told = lessonNamed(name);
   if (!told) return;
-  putLesson({ ...IN_LESSON, told });
+  putLesson({ ...IN_LESSON, told, isStrayed: true });
   cachesView.wanted = told.caches ? true : null;
   byId('about').open = byId('test-part').open = false;
   enterStep(Math.min(Math.max(0, at), told.steps.length - 1));
   byId('lesson').scrollIntoView({ block: 'nearest' });
-  focusStep({ preventScroll: true });
+  focusStep();
 }
 
-/** Puts the test of a lesson into the fields, with the choices that are made there. */
+/** Puts a lesson's test into the fields, with choices that are made. */
 function putTestOf({ text, test, settings = {} }, choices) {
   const entry = LIBRARY.find(each => each.file === text), { depth = SET_AT_FIRST.depth, words = SET_AT_FIRST.words } = entry ?? {};
   putInput(test ?? partsOf(entry.text).test);
@@ -70,14 +90,30 @@ function putTestOf({ text, test, settings = {} }, choices) {
   answerNow();
 }
 
-/** Comes to a step. After what a step showed the page stays as it is. */
-function enterStep(at) {
-  const { steps } = lesson.told, isAfterShown = at === lesson.at + 1 && steps[lesson.at].show !== undefined && lesson.isDone;
-  putLesson({ at, answer: null, refused: '', isDone: steps[at].say !== undefined && steps[at].do === undefined && steps[at].show === undefined });
-  if (!isAfterShown) putTestOf(testOf(lesson.told, at), choicesBefore(steps, at));
+/** Comes to a step. `isBack`: what it showed stands there again. */
+function enterStep(at, { isBack = false, before = '' } = {}) {
+  const { steps } = lesson.told, { ask: question, do: word, show: shows } = steps[at];
+  const isDone = question === undefined && word === undefined && (shows === undefined || isBack), views = viewsAt(steps, at, isDone);
+  const { then, because, say } = word !== undefined && at > beginOf(steps, at) ? steps[at - 1] : {}; // from which it goes on
+  const isThere = views === '' ? isAtPlace(lesson, at) : views === lesson.views && isViewed(views);
+  putLesson({ ...IN_LESSON, told: lesson.told, at, isDone, before: before || then || because || say || '', views });
+  if (!isThere) {
+    putTestOf(testOf(lesson.told, at), choicesBefore(steps, at));
+    for (const view of views.split(',')) LESSON_SHOWS[view]?.act();
+  }
   drawLesson();
   lookAtPicture();
   keepAddressSoon();
+}
+
+/** Leads back from the reader's own way, or to the step before. */
+function goBack() {
+  const { told: { steps }, at, isDone, isStrayed } = lesson;
+  if (!isStrayed) return enterStep(at - 1, { isBack: true });
+  putLesson({ isStrayed: false, refused: '' });
+  putTestOf(testOf(lesson.told, at), choicesBefore(steps, at).concat(isDone ? steps[at].do ?? [] : []));
+  drawLesson();
+  focusStep();
 }
 
 /** Ends the lesson, if one runs: the machine is free, and its task stands there again. */
@@ -126,38 +162,28 @@ function showLeft() {
   byId('to-first-test').hidden = byId('test').value === partsOf(EXAMPLES[FIRST_TEXT]).test;
 }
 
-/** Whether a choice is one that the lesson waits for, or that is free. At the last step each is. */
+/** Whether a choice is made: not while a question waits, since it may tell the answer. */
 function lessonAllows(word) {
-  if (lesson.told === null || lesson.at === lesson.told.steps.length - 1) return true;
-  if (lesson.isDone && lesson.told.steps[lesson.at + 1].do === word) enterStep(lesson.at + 1); // it is pressed in the place of Next
-  const wanted = lesson.isDone ? undefined : stepNow().do, count = choicesBefore(lesson.told.steps, lesson.at).length;
-  if (word === wanted && drive.count !== count) goTo(count);
-  if (word === wanted) return true;
-  refuseInLesson(wanted);
-  return false;
+  if (isAsked()) sayInLesson('First answer the question.');
+  else if (word === wantedNow() && lesson.isDone) enterStep(lesson.at + 1); // it is pressed in the place of Next
+  return !isAsked();
 }
 
-function refuseInLesson(wanted) {
-  const now = wanted ? `The lesson goes on with ${pressWords(wanted)}` : lesson.isDone ? 'The lesson goes on with Next' : 'First answer the question';
-  putLesson({ refused: `${now}. Leave the lesson to go your own way.` });
+function sayInLesson(refused) {
+  putLesson({ refused });
   drawLesson();
-  focusStep({ preventScroll: true });
+  if (isAsked()) focusStep();
 }
 
-/** Whether a lesson tells what happens, so that the sentence over the machine needn't. */
-function lessonTells() {
-  if (lesson.told === null) return false;
-  const { steps } = lesson.told, { at } = lesson, { do: word, then } = stepNow();
-  if (at === steps.length - 1) return drive.words.slice(0, drive.count).join() === choicesBefore(steps, at).join();
-  return word === undefined || then !== undefined;
-}
-
-/** Goes on where a choice was the one that the step waits for. */
+/** Goes on where the choice was the awaited one. Another is the reader's own way. */
 function lessonDid(word) {
-  if (lesson.told === null || lesson.isDone || stepNow().do !== word) return;
-  putLesson({ isDone: true, refused: '' });
+  if (lesson.told === null) return;
+  const { told: { steps }, at, isDone, isStrayed } = lesson, { do: wanted, then, look } = steps[at], next = steps[at + 1];
+  const isOther = isStrayed || isDone || wanted !== word;
+  if (!isOther && look === undefined && next?.ask !== undefined && next.test === undefined) enterStep(at + 1, { before: then });
+  else putLesson(isOther ? { isStrayed: true, refused: '' } : { isDone: true, refused: '', before: '' });
   drawLesson();
-  byId('lesson-next').focus({ preventScroll: true });
+  if (!isOther) focusStep();
   lookAtPicture();
 }
 
@@ -165,12 +191,12 @@ function answerLesson(answer) {
   putLesson({ isDone: true, answer, refused: '' });
   drawLesson();
   if (drive.isOn) showDrive(); // what was refused before isn't any more
-  byId('lesson-next').focus();
+  focusStep();
 }
 
 function showInLesson() {
   const { act } = LESSON_SHOWS[stepNow().show];
-  putLesson({ isDone: true, refused: '' });
+  putLesson({ isDone: true, refused: '', views: viewsAt(lesson.told.steps, lesson.at, true) });
   drawLesson();
   byId('lesson-next').focus({ preventScroll: true });
   act();
@@ -183,39 +209,50 @@ function judgedAnswer({ right, because }, answer) {
   return `${answer === right ? 'Right.' : `Not so: the answer is “${right}”.`} ${because}`;
 }
 
-/** Says what a step tells, and when it is done what came of it. */
+const putSaid = (id, said) => {
+  byId(id).hidden = said === '';
+  putText(byId(id), said);
+};
+
+/** Says what a step tells or asks, what came of it, and what to press. */
 function showSentences() {
-  const step = stepNow(), { isDone, answer, refused } = lesson;
-  const after = step.ask === undefined ? step.then : answer === null ? undefined : judgedAnswer(step, answer);
-  putText(byId('lesson-said'), step.ask ?? saidAt(step));
-  const said = [isDone ? after : '', refused].filter(Boolean).join(' ');
-  byId('lesson-after').hidden = said === '';
-  putText(byId('lesson-after'), said);
-  const isJudged = step.right !== undefined;
-  byId('lesson-after').classList.toggle('wrong', refused !== '' || (isJudged && answer !== step.right));
-  byId('lesson-after').classList.toggle('right', refused === '' && isJudged && answer === step.right);
+  const step = stepNow(), { isDone, answer, refused, isStrayed, before, told: { steps }, at } = lesson;
+  putSaid('lesson-before', before);
+  putSaid('lesson-said', step.ask ?? (step.do === undefined ? step.say : ''));
+  byId('lesson-said').classList.toggle('sum', isSum());
+  putSaid('lesson-after', isStrayed ? `You may go your own way. ${drawn.panels[0]?.sentences.join(' ')}` : refused || (isDone && (step.ask === undefined ? step.then : judgedAnswer(step, answer))) || '');
+  byId('lesson-now').replaceChildren(...(wantedNow() === undefined ? [] : pressSaid(steps[at + isDone])));
+  const judged = isStrayed || answer === null || step.right === undefined ? '' : answer === step.right ? 'right' : 'wrong';
+  byId('lesson-after').className = `after ${refused === '' ? judged : 'wrong'}`;
 }
 
 function lessonButtons() {
-  const { answers = [], right, show } = stepNow();
-  const button = (attributes, text, isOff) => html('button', { type: 'button', ...attributes, ...(isOff ? { disabled: '' } : {}) }, text);
+  const { answers = [], right, show } = stepNow(), { answer: given, isDone } = lesson, button = (attributes, ...parts) => html('button', { type: 'button', ...attributes }, ...parts);
+  const stateOf = answer => (given === null ? {} : { disabled: '', class: answer === right ? 'right' : '' });
   return [
-    ...answers.map(answer => button({ 'data-answer': answer, class: lesson.answer !== null && answer === right ? 'right' : '', 'aria-pressed': String(answer === lesson.answer) }, answer, lesson.answer !== null)),
-    ...(show === undefined ? [] : [button({ 'data-show': show, class: lesson.isDone ? '' : 'main' }, LESSON_SHOWS[show].says)]),
+    ...answers.map((answer, at) => button({ 'data-answer': answer, 'aria-keyshortcuts': at + 1, 'aria-pressed': answer === given, ...stateOf(answer) }, html('kbd', { 'aria-hidden': 'true' }, at + 1), answer)),
+    ...(show === undefined ? [] : [button({ 'data-show': show, class: isDone ? '' : 'main' }, LESSON_SHOWS[show].says)]),
   ];
 }
 
+function inC(instruction, core) {
+  const [, to, from] = /^MOV (\S+),(\S+)$/.exec(instruction) ?? [], word = text => text.replace(/[[\]$]/g, '').replace(/^E.X$/, `r${core}`);
+  return to ? `${word(to)} = ${word(from)};` : instruction === 'MFENCE' ? 'fence;' : '';
+}
+/** Whether programs stand in C beside: in a lesson, where EAX is enough. */
+const isToldInC = ({ programs }) => lesson.told !== null && programs.flat().every(text => inC(text, 0) !== '' && !/E[^A]X/.test(text));
+
 function markWanted() {
-  const wanted = lesson.told === null || lesson.isDone ? undefined : stepNow().do;
+  const wanted = wantedNow();
   for (const button of document.querySelectorAll('[data-choice]')) button.classList.toggle('wanted', button.dataset.choice === wanted);
 }
 
-/** What stands at the button that goes on. */
 function showNext() {
   const { told: { steps }, at } = lesson, isLast = at === steps.length - 1, next = nextLesson(), part = steps[at + 1]?.title;
-  byId('lesson-next').textContent = part ? `Next: ${part}` : !isLast ? 'Next' : next ? `Next lesson: ${next.title}` : 'End of the lesson';
-  byId('lesson-next').disabled = !lesson.isDone;
-  byId('lesson-back').disabled = lesson.at === 0;
+  byId('lesson-next').textContent = part ? `Next: ${part}` : !isLast ? 'Next' : next ? `Next lesson: ${next.title.split(':')[0]}` : 'End of the lesson';
+  byId('lesson-next').hidden = !lesson.isDone || wantedNow() !== undefined;
+  byId('lesson-back').disabled = at === 0 && !lesson.isStrayed;
+  byId('lesson-back').textContent = lesson.isStrayed ? 'Back to the lesson’s place' : 'Back';
   putText(byId('lesson-also'), stepNow().also?.says ?? '');
 }
 
@@ -227,18 +264,17 @@ function lookAtPicture() {
 }
 
 function drawLesson() {
-  const isOn = lesson.told !== null;
-  document.documentElement.classList.toggle('learning', isOn);
-  document.documentElement.classList.toggle('questioned', isOn && !lesson.isDone && stepNow().ask !== undefined);
+  const isOn = lesson.told !== null, { classList } = document.documentElement;
+  classList.toggle('learning', isOn);
+  classList.toggle('questioned', isAsked());
   const { at, isDone } = lesson, asked = isOn && lesson.told.steps.findIndex((step, each) => step.ask && each >= beginOf(lesson.told.steps, at));
-  document.documentElement.classList.toggle('unasked', isOn && at < asked + !isDone); // what waits may tell the answer
+  classList.toggle('unasked', isOn && at < asked + !isDone); // what waits may tell the answer
   byId('lesson').hidden = !isOn;
   showLeft();
   markWanted();
   if (!isOn) return;
   putText(byId('lesson-title'), lesson.told.steps[beginOf(lesson.told.steps, lesson.at)].title ?? lesson.told.title);
-  const { do: word, ask: question } = stepNow(), first = lesson.isDone ? '' : word !== undefined ? `: first press ${pressWords(word)}` : question !== undefined ? ': first give an answer' : ': first press the button';
-  putText(byId('lesson-place'), placeSaid(lesson.told.steps, lesson.at) + first);
+  showPlace(lesson.told, at);
   showSentences();
   byId('lesson-answers').replaceChildren(...lessonButtons());
   showNext();
@@ -246,6 +282,7 @@ function drawLesson() {
 
 function goOn() {
   const { told: { steps }, at } = lesson;
+  if (wantedNow() !== undefined) return makeChoice(wantedNow());
   if (at < steps.length - 1) {
     enterStep(at + 1);
     focusStep();
@@ -264,10 +301,18 @@ function goElsewhere() {
   fold.firstElementChild.focus();
 }
 
-/** Puts the focus on what a step waits for or asks. */
-function focusStep(how) {
-  const waited = lesson.isDone ? null : stepNow().ask === undefined ? document.querySelector('[data-choice].wanted, #lesson-answers [data-show]') : byId('lesson-said');
-  (waited ?? byId('lesson-next')).focus(how);
+/** Puts the focus on what a step waits for or asks; at a lesson's end on what is said there. */
+function focusStep() {
+  const waited = isAsked() || isSum() ? byId('lesson-said') : document.querySelector('[data-choice].wanted');
+  (waited ?? (lesson.isDone ? null : document.querySelector('#lesson-answers [data-show]')) ?? byId('lesson-next')).focus({ preventScroll: true });
+}
+
+/** What a key does at a question: a digit answers, and Enter leads to the answers. Whether it did anything. */
+function answerByKey(key) {
+  const answer = stepNow().answers[key - 1], isEnter = key === 'Enter' && document.activeElement === byId('lesson-said');
+  if (answer !== undefined) answerLesson(answer);
+  else if (isEnter) byId('lesson-answers').firstElementChild.focus();
+  return answer !== undefined || isEnter;
 }
 
 function showLessons() {
@@ -291,14 +336,14 @@ function drawLessons() {
 }
 
 document.addEventListener('click', ({ target }) => {
-  const { lesson: name, step = 0, answer, show: shows } = target.dataset ?? {};
+  const { lesson: name, step = 0, answer, show: shows } = (target.closest('[data-answer]') ?? target).dataset ?? {};
   if (name !== undefined) beginLesson(name, Number(step));
   else if (answer !== undefined) answerLesson(answer);
   else if (shows !== undefined) showInLesson();
 });
 byId('lesson-next').addEventListener('click', goOn);
 byId('lesson-also').addEventListener('click', goElsewhere);
-byId('lesson-back').addEventListener('click', () => enterStep(lesson.at - 1));
+byId('lesson-back').addEventListener('click', goBack);
 byId('lesson-leave').addEventListener('click', leaveLesson);
 byId('lesson-again').addEventListener('click', () => beginLesson(leftLesson.name, leftLesson.at));
 byId('more-lessons').addEventListener('click', showLessons);

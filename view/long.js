@@ -17,6 +17,9 @@ function showRefusalAlone(command) {
   if (!isRefused && !isLive) byId('states').replaceChildren(html('p', { class: 'faint to-begin' }, `Press “${BEGINS[command]}”.`));
 }
 
+/** What Ctrl and Enter ask. */
+const askedNext = () => (LONG.includes(currentCommand()) ? currentCommand() : bench.last);
+
 function stopTask() {
   bench.task?.stop();
   bench.task = null;
@@ -28,6 +31,7 @@ function stopTask() {
 async function begin({ isAgain } = {}) {
   const command = currentCommand(), { options } = showAsked(command), asks = JSON.stringify([options, inputOf(command)]);
   if (isAgain !== true && bench.told === asks) return focusAnswer();
+  if (LONG.includes(command)) bench.last = command;
   stopTask();
   clearTimeout(bench.again);
   byId('about').open = false;
@@ -69,7 +73,7 @@ function showLong(command, answers, options, input) {
   else if (command === 'outcomes' && isGood) showOutcomes(answer, beside, input);
   else if (command === 'outcomes' && isUnended) showMet(answer, options.depth);
   else if (command === 'counts' && (isGood || isUnended)) showCounts(answers);
-  else if (command === 'why' && isGood) showReason(answer, input);
+  else if (command === 'why' && isGood) showReason(answer, input, beside);
   else if (command === 'why' && isUnended) showUnfinished(command, answer);
   else showOpenAnswer(answer);
 }
@@ -81,12 +85,13 @@ function showUnfinished(command, answer) {
   byId('states').replaceChildren(...unfinishedParts(command));
 }
 
-/** What a task is asked: of a run its report and its line, of outcomes those of sequential consistency too. */
+/** What a task is asked: of a run its report and its line, of outcomes and why the answer of sequential consistency too. */
 function questionsOf(command, options) {
   if (command === 'run') return [options, { ...options, json: true }];
   if (command === 'outcomes') return [{ ...options, json: true }, ...(options.depth > 0 ? [{ ...options, depth: 0, json: true }] : [])];
   if (command === 'counts') return countedProtocols().map(protocol => ({ ...options, protocol, json: true }));
-  return [command === 'why' ? { ...options, json: true } : options];
+  if (command === 'why') return [{ ...options, json: true }, ...(options.model === 'tso' ? [{ command, json: true, model: 'sc', cases: POSSIBLE_CASES }] : [])];
+  return [options];
 }
 
 function showLongRun(answer, line, options, input) {

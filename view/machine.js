@@ -36,12 +36,12 @@ function usedRegisters({ programs, proposition, start }, core) {
 }
 
 /** The registers of these names: those that the step wrote (`just`) stand out, and those that none has written look faint. */
-function registerItems(now, before, written, used, just) {
+function registerItems(now, before, written, used, just, inLesson) {
   if (used.length === 0) return [html('li', { class: 'faint' }, 'none used')];
   return used.map(name => html('li', {
     ...marked(written.includes(name) ? 'word written' : 'word plain', just.includes(name)),
     title: written.includes(name) ? `An instruction wrote ${name}.` : `No instruction has written ${name} yet.`,
-  }, `${name}=${now[name]}`));
+  }, `${name}${inLesson}=${now[name]}`));
 }
 
 /** The stores that wait, the oldest first, after one that left. */
@@ -110,6 +110,7 @@ class CorePanel {
   constructor(core, history) {
     const { programs, options } = history, title = text => partTitle(text, core === 0);
     this.core = core;
+    this.programs = programs;
     this.program = programs[core];
     this.used = usedRegisters(history, core);
     this.depth = options.depth;
@@ -142,10 +143,11 @@ class CorePanel {
 
   /** Shows the core as it is after a step and what that step changed. `bus` is the bus where this core holds it, and else null. */
   show(core, old, { bus, changes, hasEnded, isLast, supply }) {
-    const key = JSON.stringify([core, old, bus, changes, hasEnded, isLast, supply]), isBuffer = supply?.from === 'buffer';
+    const inLesson = isToldInC(this) ? ` (r${this.core})` : '', key = JSON.stringify([core, old, bus, changes, hasEnded, isLast, supply, inLesson]), isBuffer = supply?.from === 'buffer';
     if (key === this.key && !this.hasOffered) return;
     this.key = key;
-    this.registers.show(core.registers, old.registers, this.program.slice(0, core.place).flatMap(writtenBy), this.used, core.place === old.place ? [] : writtenBy(this.program[old.place]));
+    this.registers.show(core.registers, old.registers, this.program.slice(0, core.place).flatMap(writtenBy), this.used, core.place === old.place ? [] : writtenBy(this.program[old.place]), inLesson);
+    [...this.list.children].forEach((item, at) => setAll(item, { 'data-c': inLesson && inC(this.program[at], this.core) }));
     this.buffer.show(core.buffer, old.buffer, isBuffer ? supply : null);
     this.lines.show(core.lines, changes, bus?.state?.length > 1 ? { line: bus.line, state: bus.state } : null, isBuffer ? null : supply);
     this.showButtons(core, bus, hasEnded);

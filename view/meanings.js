@@ -5,7 +5,7 @@
 const MEANINGS = {
   Program: 'The instructions of this core, from top to bottom. The marked one is next: step does it.',
   Registers: 'Words that belong to this core alone: a load puts what it reads there.',
-  'Store buffer': 'A queue of stores that this core has made and memory has not seen. Only this core sees them there. The oldest, at the left, drains first.',
+  'Store buffer': 'A queue of stores that this core has made and memory has not seen. Only this core sees them there. The oldest, at the right, drains first.',
   Cache: 'Copies of lines of memory, each in a state. A store can be written only while this core has the only copy.',
   Bus: 'All caches are on one bus: by it they ask for lines, and see what others ask for.',
   Memory: 'The word of each location that all cores share. With caches, “newest” is a word that a cache has and memory itself has not yet.',

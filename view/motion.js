@@ -8,9 +8,9 @@ const MOVED = { part: 0.7, most: 700 }; // of the time between two choices, and 
 function wayOfStep({ choice, outcome, entries, forwarded, transaction }) {
   const core = `.core[data-core='${coreOfChoice(choice)}']`, [first] = entries.map(entryOf);
   const isSeen = outcome === 'committed' && first?.kind === 'W';
-  if (forwarded) return { from: `${core} .buffer`, to: `${core} .registers`, text: `${first.location}=${first.value}` };
+  if (forwarded) return { from: `${core} .buffer .source`, to: `${core} .registers`, text: `${first.location}=${first.value}` };
   if (transaction && !byId('run').matches('.plain')) return { from: `${core} .cache`, to: '.bus', text: transaction };
-  return isSeen ? { from: `${core} .buffer`, to: '.memory', text: `${first.location}=${first.value}` } : null;
+  return isSeen ? { from: `${core} .buffer .slot`, to: '.memory .changed', text: `${first.location}=${first.value}` } : null;
 }
 
 /** Moves what the last choice moved, where that is wanted. */

@@ -8,10 +8,7 @@ const isWrite = entry => entry.kind === 'W' || entry.kind === 'LW';
 /** Whether one entry is before another in program order; the parts of one locked instruction aren't asked about. */
 const isBefore = (first, second) => first.core === second.core && first.place < second.place;
 
-/**
- * The write that a read returned, or undefined where it returned the initial word: of the writes to its location that are
- * before it in memory order or in program order, the one that is last in memory order.
- */
+/** The write that a read returned, undefined for the initial word: of those to its location before it in memory or program order, the last in memory order. */
 function sourceOf(order, read) {
   const writes = order.filter(entry => isWrite(entry) && entry.location === read.location);
   return writes.findLast(write => write.index < read.index || isBefore(write, read));
@@ -23,14 +20,9 @@ function passedBy(order, load) {
 }
 
 /**
- * When a plain store came into its core's buffer. Moment m is the one after m entries of the order.
- *
- * A load, a fence and a locked instruction make their entry at their own step, and a core steps in program order; a plain
- * store's step puts it into the buffer, and its entry is made when it leaves. So it came in after each earlier entry of its
- * core that is no plain store, and before each later one; and before it left. A buffer has room for `depth` stores and lets
- * them out in program order, so it came in after the store that is `depth` plain stores before it had left. Nothing else is
- * told: it came in at some moment from `earliest` to `latest`, each of which is possible. From `latest` to its own entry it
- * waited for certain. At depth 0 there is no buffer, and a store's entry is made at its step.
+ * When a plain store came into its core's buffer; moment m is the one after m entries. All other entries are made at their own step, in program
+ * order. So it came in between those before and after it, and once the store that is `depth` plain stores before it had left: at a moment from
+ * `earliest` to `latest`, each of which is possible. From `latest` on it waited for certain. At depth 0 its entry is made at its step.
  */
 function waitOf(run, store) {
   const { depth } = run.machine;

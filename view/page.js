@@ -57,7 +57,7 @@ const fromExample = { words: null };
 /** Takes a text of the list of examples, and brings the machine with it into sight. Who asked for outcomes or for a reason is answered of it,
  * but of caches. */
 function takeFromLibrary(file) {
-  const command = currentCommand();
+  const command = isLecture() ? 'run' : currentCommand();
   putDrive({ beside: null }); // what stood beside another test
   loadText(file);
   if (bench.answer?.status === Tso.STATUS.refused) return;
@@ -103,9 +103,13 @@ function scrollsBy(key, element) {
   return key.startsWith('Arrow') ? scrolled.scrollWidth > scrolled.clientWidth : scrolled.scrollHeight > scrolled.clientHeight;
 }
 
+const ASK_KEYS = { o: 'outcomes', w: 'why' };
+const canAsk = () => bench.tso !== null && lesson.told === null && !isUnanswered() && byId('test').value.trim() !== '';
+
 document.addEventListener('keydown', event => {
-  if (event.ctrlKey && event.key === 'Enter' && bench.tso && !byId('begin').hidden) begin();
+  if (event.ctrlKey && event.key === 'Enter' && canAsk()) ask(askedNext());
   const isForOthers = event.target.matches('textarea, input, select') || event.ctrlKey || event.altKey || event.metaKey || (event.shiftKey && event.key !== '+');
+  if (!isForOthers && ASK_KEYS[event.key] && canAsk() && byId('letter-keys').checked) return ask(ASK_KEYS[event.key]);
   if (isForOthers || !(shown.run || drive.isOn)) return;
   if (KEYS[event.key] && scrollsBy(event.key, event.target)) return;
   if (KEYS[event.key]) move(KEYS[event.key]);

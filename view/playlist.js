@@ -28,7 +28,7 @@ function addToList() {
   if (!isThere) taught.list = [...taught.list, one];
   playlist.at = isThere ? at : taught.list.length - 1;
   drawList();
-  sayListed(`${isThere ? 'It is there already, as' : 'Added as'} ${playlist.at + 1} of ${taught.list.length}.`);
+  sayListed(`${isThere ? 'It is there already, as' : 'Added as'} ${playlist.at + 1}: ${shortName(one)}.`);
 }
 
 /** Puts what is shown in the place of the entry that was opened or added last. */
@@ -38,11 +38,12 @@ function updateListed() {
   sayListed(`It is ${playlist.at + 1} of ${taught.list.length} now.`);
 }
 
-/** Says something beside the buttons of the list, of what is shown now, with a way to the list. */
+const shortName = ({ name }) => name.replace(/: (.*)/, ' ($1)');
+
+/** Says something beside the buttons of the list, of what is shown now. */
 function sayListed(sentence) {
   playlist.said = sentence === '' ? null : currentAddress();
-  const toList = () => html('button', { type: 'button', class: 'quiet', 'data-to-list': '' }, 'See the list ↑');
-  for (const place of document.querySelectorAll('.listed')) place.replaceChildren(...(sentence === '' ? [] : [sentence, ' ', toList()]));
+  for (const place of document.querySelectorAll('.listed')) putText(place, sentence);
 }
 
 /** Whether what is shown is of the test, and of the command too, of the entry that was opened or added last. */
@@ -63,13 +64,14 @@ const isToUpdate = () => isChangedEntry() && !isExercise();
 
 /** Keeps what is said of the list with what is shown: notes of something else go, and an entry that was changed can be put anew. */
 function followShown() {
-  const isChanged = isToUpdate();
+  const isChanged = isToUpdate(), part = byId('list-part'), place = byId(byId('run').hidden ? 'way-back' : 'saves');
+  if (part.parentElement !== place) place.append(part); // where one adds
   if (playlist.said !== null && playlist.said !== currentAddress()) sayListed('');
   for (const button of document.querySelectorAll('[data-update-list]')) {
     button.hidden = !isChanged;
     putText(button, `Update ${playlist.at + 1} of ${taught.list.length}`);
   }
-  if (playlist.where !== whereInList()) drawBar();
+  if (playlist.where !== (isLecture() ? footSaid() : whereInList())) drawBar();
 }
 
 /** What the browser keeps with the address, so that it is there again after a reload: the list, which of it is shown, and whether in a lecture. */
@@ -104,7 +106,9 @@ function raiseInList(at) {
 /** Opens a test of the list: a run before its first choice, so that one goes through it, or at its end (`isAtEnd`) for who goes back. One that
  * was left changed is so still, but not in a lecture. */
 function openListed(at, isAtEnd = false) {
-  if (at < 0 || at >= taught.list.length) return;
+  const entries = toGoThrough();
+  if (entries[at] === undefined) return;
+  if (entries !== taught.list) return openOffered(entries[at], isAtEnd);
   if (at !== playlist.at && isChangedEntry()) playlist.left.set(taught.list[playlist.at], currentAddress());
   Object.assign(playlist, { at, isFromBehind: isAtEnd });
   endLesson();
@@ -120,6 +124,7 @@ function openListed(at, isAtEnd = false) {
 function showFromBehind() {
   if (playlist.isFromBehind && isOfEntry()) sheet.cycle?.move('all');
   playlist.isFromBehind = false;
+  showFoot();
 }
 
 const listButton = (attributes, text, isOff = false) => html('button', { type: 'button', ...attributes, ...(isOff ? { disabled: '' } : {}) }, text);
@@ -135,20 +140,31 @@ function whereInList() {
 /** An entry's name without what it shows. */
 const plainName = ({ name }) => name.split(':')[0];
 
-/** The bar over the machine: which entry is shown, if one is, and the ways to the one before and the next. A lecture doesn't name what comes. */
+/** The bar over the machine: which entry is shown, if one is, and the ways to the one before and the next. In a lecture it is the foot, which says
+ * what PageDown does; there names tell no answer. */
 function drawBar() {
-  const { list } = taught, { at } = playlist;
-  const next = at + 1 < list.length ? `Next${isLecture() ? '' : `: ${list[at + 1].name}`} ▶` : at > 0 ? LIST_END : 'Next ▶', isOut = at >= 0 && !isOfEntry() && at + 1 >= list.length;
+  const { list } = taught, { at } = playlist, isEnd = at + 1 >= list.length;
+  byId('list-bar').hidden = list.length === 0 && !isLecture();
+  if (isLecture()) return drawFoot();
   playlist.where = whereInList();
+  const next = !isEnd ? `Next: ${list[at + 1].name} ▶` : at > 0 ? LIST_END : 'Next ▶', isOut = at >= 0 && !isOfEntry() && isEnd;
   byId('list-bar').replaceChildren(listButton({ 'data-listed': at - 1 }, '◀ Previous', at <= 0), html('span', {}, playlist.where),
-    ...(isToUpdate() ? [listButton({ 'data-update-list': '' }, `Update ${at + 1} of ${list.length}`)] : []), ...(isOut ? [] : [listButton({ 'data-listed': at + 1 }, next, at >= list.length - 1)]));
+    ...(isToUpdate() ? [listButton({ 'data-update-list': '' }, `Update ${at + 1} of ${list.length}`)] : []), ...(isOut ? [] : [listButton({ 'data-listed': at + 1 }, next, isEnd)]));
+}
+
+function drawFoot() {
+  const entries = toGoThrough(), way = (at, text) => (entries[at] ? listButton({ 'data-listed': at, class: 'quiet' }, text(plainName(entries[at]))) : html('i', {}));
+  playlist.where = footSaid();
+  byId('list-bar').replaceChildren(way(placeBefore(), name => `◀ ${name}`), listButton({ 'data-onward': '', class: 'quiet' }, playlist.where, !onward()), way(placeNow() + 1, name => `${name} ▶`));
 }
 
 function drawList() {
   keepList();
   sayListed('');
   const { list } = taught;
-  byId('list-bar').hidden = byId('list-part').hidden = list.length === 0;
+  byId('list-part').hidden = list.length === 0;
+  putText(byId('list-said'), `List: ${list.map((each, at) => `${at + 1} ${shortName(each)}`).join(' · ')}`);
+  document.querySelectorAll('[data-lecture]').forEach(nameLecture);
   byId('save-exercises').hidden = list.length < 2;
   drawBar();
   byId('list').replaceChildren(...list.map(({ name }, each) => html('li', {}, listButton({ 'data-listed': each, class: 'quiet' }, name),
@@ -180,13 +196,6 @@ function foldList() {
   byId('list-part').open = false;
 }
 
-/** Brings the list into sight, open. */
-function showList() {
-  byId('list-part').open = true;
-  byId('list-part').scrollIntoView({ block: 'center' });
-  byId('list').querySelector('button').focus({ preventScroll: true });
-}
-
 document.addEventListener('click', ({ target }) => {
   const { listed, unlisted, raised, renamed } = target.dataset ?? {};
   if (listed !== undefined) openListed(Number(listed));
@@ -197,5 +206,4 @@ document.addEventListener('click', ({ target }) => {
 document.addEventListener('click', ({ target }) => {
   if (target.matches('[data-add-to-list]')) addToList();
   else if (target.matches('[data-update-list]')) updateListed();
-  else if (target.matches('[data-to-list]')) showList();
 });

@@ -31,7 +31,7 @@ function verdictWords(verdict) {
 const sourceText = source => (source === 'initial' ? 'the initial value' : `what ${source} writes`);
 const eitherOf = words => (words.length < 2 ? words.join('') : `${words.slice(0, -1).join(', ')} or ${words.at(-1)}`);
 
-/** What is left for the places of a proposition that can't hold; nothing is told of them where there are none. */
+/** What is left for the places of a proposition that can't hold. */
 function falseSentence(places) {
   const bare = places.filter(([, words]) => words.length === 0).map(([place]) => placeName(place));
   if (bare.length > 0) return `It can't be: no word is left that ${eitherOf(bare)} could have at the end.`;
@@ -97,7 +97,7 @@ function answersWords(answers) {
 
 const READS_FROM = factForm('(EVENT) from (initial|EVENT)');
 
-/** The answers that a case takes: where they are all that one read can read, they are listed. */
+/** The answers that a case takes; all that one read can read are listed. */
 function caseWords(answers) {
   const reads = answers.map(facts => (facts.length === 1 ? READS_FROM.exec(facts[0]) : null)), read = reads[0]?.[1];
   const isOne = answers.length > 1 && reads.every(found => found?.[1] === read);
@@ -108,17 +108,17 @@ const lowered = sentence => sentence[0].toLowerCase() + sentence.slice(1);
 
 const placeName = place => place.replace(/^(\d):(\w+)$/, 'P$1\'s $2');
 
-/** A step that the page doesn't know, as a module that is newer may tell it: its name and what it holds. */
+/** A step of a newer module: its name and what it holds. */
 const plainStep = ({ step: name, depth, ...held }) => `${name}: ${Object.values(held).map(value => (typeof value === 'string' ? value : JSON.stringify(value))).join(' ')}`;
 const sentenceBy = (sentences, step) => (Object.hasOwn(sentences, step.step) ? sentences[step.step](step) : plainStep(step));
 const stepSentence = step => sentenceBy(STEP_SENTENCES, step);
 const closingSentence = closing => sentenceBy(CLOSING_SENTENCES, closing);
 
-/** What closes the case of a step, if it does: it stands in the step, or is the step. */
+/** What closes the case of a step: it stands in the step, or is the step. */
 const closingOf = step => step.closing ?? step;
 const hasPart = step => step.step === 'never' || (step.step === 'case' && !step.closing);
 
-/** The steps as a tree: a lemma, and a case that its own line doesn't close, have in `parts` all that is told of them. */
+/** The steps as a tree: a lemma, and a case that its line doesn't close, have in `parts` what is told of them. */
 function treeOf(steps) {
   const roots = [], open = [roots]; // `open[depth]` takes what comes at this depth
   for (const step of steps) {
@@ -143,7 +143,7 @@ function treeList(nodes, steps, isOpen) {
   }));
 }
 
-/** Of an execution the edges that its sources and its coherence tell; after a read come the writes that overwrite what it returned. */
+/** The edges that an execution's sources and coherence tell; after a read come the writes that overwrite what it returned. */
 function edgesOf({ sources, coherence }) {
   const writes = Object.values(coherence), locationOf = text => eventOf(text).location;
   const order = writes.flatMap(each => each.slice(1).map((to, at) => ({ from: each[at], relation: 'co', to })));
@@ -157,8 +157,7 @@ function edgesOf({ sources, coherence }) {
 
 const LOCKED = /^LOCK\b|^XCHG\b.*\[/i;
 
-/** By which relation an event is before a later one of its core: TSO doesn't keep a store before a load of another location, where neither a
- * fence nor a locked instruction keeps it. */
+/** By which relation an event is before a later one of its core: `unkept` where nothing keeps a store before a load. */
 function orderInProgram(from, to, programs) {
   if (!['W', 'LW'].includes(from.kind) || !['R', 'LR'].includes(to.kind)) return 'po';
   const between = programs[from.core].slice(from.place + 1, to.place);
@@ -175,7 +174,7 @@ function edgesOfPrograms(edges, programs) {
   return events.flatMap(from => events.filter(to => isLater(from, to)).map(to => edgeOf(from, to)));
 }
 
-/** A shortest way from an event back to itself, by the steps that leave each event; null where there is none. */
+/** A shortest way from an event back to itself, by the steps that leave each event, or null. */
 function wayBack(start, leaving) {
   const came = new Map(), reached = [start];
   const reach = step => {
@@ -190,14 +189,15 @@ function wayBack(start, leaving) {
   return way.map(({ edge }) => edge);
 }
 
-/** A shortest cycle of an execution's edges and program order, which sequential consistency forbids; empty where there is none. It begins with an order
- * that TSO doesn't keep, that of a store and one of the `loads` that passed it. */
-function forbiddenCycle(edges, programs, loads) {
+/** A shortest cycle of an execution's edges and program order, or an empty one, through what is `wanted` if it can. It begins with an order that TSO
+ * doesn't keep, that of a store and one of the `loads` that passed it. */
+function forbiddenCycle(edges, programs, loads, wanted) {
   const stepOf = edge => ({ edge, from: nameOfEvent(edge.from), to: nameOfEvent(edge.to) }), leaving = new Map();
   const steps = [...edges, ...edgesOfPrograms(edges, programs)].map(stepOf);
   for (const step of steps) leaving.set(step.from, [...(leaving.get(step.from) ?? []), step]);
   const ways = [...leaving.keys()].map(event => wayBack(event, leaving)).filter(way => way !== null);
-  const [cycle = []] = ways.sort((one, other) => one.length - other.length);
+  const isWanted = way => way.some(edge => wanted.some(place => isAt(edge, place)));
+  const [cycle = []] = ways.sort((one, other) => isWanted(other) - isWanted(one) || one.length - other.length);
   const isSame = (entry, text) => nameOfEvent(entry.text) === nameOfEvent(text);
   const isPassed = ({ from, to }) => loads.some(load => isSame(load, to) && load.passed.some(store => isSame(store, from)));
   const unkept = cycle.filter(({ relation }) => relation === 'unkept');
@@ -206,7 +206,7 @@ function forbiddenCycle(edges, programs, loads) {
   return [...cycle.slice(at), ...cycle.slice(0, at)];
 }
 
-/** Whether a run's order is the execution of an answer: each read has the same source, and the writes to each location come in the same order. */
+/** Whether a run's order is the execution of an answer: reads have the same sources, and writes to a location the same order. */
 function isExecution(order, { sources, coherence }) {
   const found = new Map(order.map(entry => [nameOfEvent(entry.text), entry])), sourceName = read => found.get(nameOfEvent(read))?.source?.text ?? 'initial';
   const writesTo = location => order.filter(entry => isWrite(entry) && entry.location === location).map(({ text }) => nameOfEvent(text));

@@ -79,7 +79,7 @@ const savedPicture = picture => inColoursOfSaved(() => styledPicture(picture));
 
 function styledPicture({ parts, label, y, width, height }) {
   const kept = parts.filter(part => !part.matches(OF_THE_SCREEN));
-  const ground = svg('rect', { y, width, height, fill: getComputedStyle(document.body).backgroundColor });
+  const ground = svg('rect', { y, width, height, fill: getComputedStyle(byId('stepper')).backgroundColor });
   const picture = svg('svg', { class: 'picture', width, height, viewBox: `0 ${y} ${width} ${height}`, role: 'img', 'aria-label': label },
     svg('defs', {}, styledCopy(byId('point'))), ground, ...kept.map(styledCopy));
   return '<?xml version="1.0" encoding="UTF-8"?>\n' + inXml(new XMLSerializer().serializeToString(picture)) + '\n';

@@ -109,7 +109,7 @@ function putCommand(name) {
 function showTestLine(command) {
   const { options = Tso.DEFAULTS } = readSettings(command);
   const on = !SETTINGS[command].includes('bus') ? '' : showsCaches([options]) ? machineTitle(options) : plainMachineName(options);
-  putText(byId('test-line'), `${testName()}: ${[command === 'run' ? '' : command, on].filter(Boolean).join(', ')}`);
+  putText(byId('test-line'), testName() + (isLecture() ? '' : `: ${[command === 'run' ? '' : command, on].filter(Boolean).join(', ')}`));
 }
 
 /** The words of the command line that asks the same. The page reads all instructions, and the program those of the grammar where it isn't told. */

@@ -15,3 +15,13 @@ function keepClear() {
 }
 
 for (const id of ['stepper', 'lesson']) new ResizeObserver(keepClear).observe(byId(id));
+
+/** A fold of the bar closes when one presses elsewhere, starts a lesson, or presses Escape. */
+function closeFold({ target, key }) {
+  const open = document.querySelector('#folds [open]'), stays = key ? key !== 'Escape' : open?.contains(target) && !target.closest('[data-lesson]');
+  if (!open || stays) return;
+  if (open.contains(document.activeElement)) open.firstElementChild.focus();
+  open.open = false;
+}
+
+for (const kind of ['click', 'keydown']) document.addEventListener(kind, closeFold);

@@ -2,7 +2,7 @@
 
 // The sheet of `why`: what was asked, and why it can't be, or how it can.
 
-/** The sheet that is shown: the answer, the programs, and the cycle that is drawn; null where none is. */
+/** The sheet that is shown: the answer, the programs, and the cycle that is drawn. */
 const sheet = { told: null, programs: null, cycle: null };
 
 /** Whether a module answers `why`, tried on the first test. */
@@ -14,7 +14,7 @@ function tellsWhy(tso) {
   }
 }
 
-/** Whether a module has the larger set of instructions: an older one doesn't look at what is asked for. */
+/** Whether a module has the larger set of instructions. */
 function hasLargerSet(tso) {
   try {
     return tso.answer({ command: 'check', instructions: 'neither' }, '').status === Tso.STATUS.nothingAsked;
@@ -23,7 +23,7 @@ function hasLargerSet(tso) {
   }
 }
 
-/** The programs of an input's test, by its trace without choices, its condition's text or null, and the machine at its start. */
+/** A test's programs, its condition's text or null, and the machine at its start, by its trace without choices. */
 function readTest(input) {
   const { text } = asked({ command: 'trace', json: true }, `${partsOf(input).test}${DIVIDING_LINE}\n`), { programs, proposition, start } = readTrace(text);
   return { programs, proposition, start };
@@ -48,42 +48,52 @@ function readAsSaid(test) {
   return [...found].map(text => ` ${text} is read as ${text.replace(/INC|DEC/i, verb => READ_AS[verb.toUpperCase()])},$1.`).join('');
 }
 
-/** Shows what `why --json` told of a test. */
-function showReason(answer, test) {
+/** Shows what `why --json` told of a test, and `beside` it of sequential consistency. */
+function showReason(answer, test, beside) {
   const told = JSON.parse(answer.text), { programs, proposition } = readTest(test);
   showAnswer(answer);
   foldReport(answer);
-  Object.assign(sheet, { told, programs, cycle: null });
+  Object.assign(sheet, { told, programs, test, cycle: null });
   const isTso = told.model === 'tso', can = told.answer !== 'never';
   if (!can && isTso) possible.refuted = test;
   if (can && isTso && told.asked?.truth === true) possible.found = test;
-  const parts = told.answer === 'never' ? refutedParts(told) : allowedParts(told, programs, proposition);
+  const parts = told.answer === 'never' ? refutedParts(told) : allowedParts(told, programs, proposition, beside);
   const title = !can ? 'Why it can\'t be' : told.asked === null ? 'How it may end' : 'How it can be';
-  const early = text => (told.asked === null ? {} : { 'data-early': text }); // what a lecture has in its place, up to the last arrow
+  const early = told.asked === null ? {} : { 'data-early': '' }; // a lecture shows it with the last arrow
   const heading = answerTitle(title);
-  setAll(heading, early('Can it be?'));
+  setAll(heading, early);
   const section = html('section', { class: 'reason', 'aria-label': 'Why' }, heading,
-    html('p', { role: 'status' }, ...(isTso ? judgeThought(can) : []), html('strong', early(whyQuestion(test)), plainAnswer(told, proposition))),
-    html('p', { class: 'small faint' }, eventsSaid(answer.text) + readAsSaid(test)), ...countsOffer(), ...parts);
+    html('p', { role: 'status' }, ...(isTso ? judgeThought(can) : []), html('strong', early, plainAnswer(told, proposition))),
+    ...enoughPart(told, test, proposition), html('p', { class: 'small faint' }, eventsSaid(answer.text) + readAsSaid(test)), ...countsOffer(), ...parts);
   byId('states').replaceChildren(section);
   const [first, second] = told.answer === 'never' ? cyclesOf(told.steps) : [];
   if (first) drawCycle(first.at);
   if (!second) section.querySelector('[data-cycle]')?.remove(); // the one that is drawn
+  showQuestion(test);
   showFromBehind();
   section.append(inTerms(reasonSentence(told, proposition)), sheetTools(section.querySelector('figure') !== null));
 }
 
-/** What is asked, as a question. */
-const whyQuestion = test => (quantifierOf(test) === 'forall' ? 'Can a run end otherwise?' : questionOf(test));
-
-/** The answer in one plain sentence: with the words that are asked for, where the condition asks for words at places alone. */
+/** The answer in one plain sentence, with the words that are asked for where the condition is plain. */
 function plainAnswer({ answer, asked }, proposition) {
   if (asked === null && answer !== 'never') return 'The test has no condition: add one, as exists (0:EAX=0).';
   const wanted = asked?.truth === true && proposition !== null ? wantedWords(proposition) : null, end = wanted === null ? 'ends so' : `ends with ${wantedSentence(wanted)}`;
   return answer === 'never' ? `No: no run ${end}.` : `Yes: a run ${end}.`;
 }
 
-/** Where caches are in sight: that a reason speaks of values alone, and where misses are counted. An older module counts none in many runs. */
+/** Which of the wanted words already can't be together, as the module says: those that no cycle has are left out first. */
+function enoughPart({ answer, asked: wish, model, steps }, test, proposition) {
+  const wanted = (answer === 'never' && wish?.truth && wantedWords(proposition)) || [], until = Date.now() + 200;
+  const { facts = [] } = steps?.find(({ step }) => step === 'given') ?? {}, isUsed = place => cyclesOf(steps).some(({ cycle }) => cycle.some(({ to }) => to === facts[wanted.indexOf(place)]));
+  const few = wanted.toSorted((one, other) => isUsed(one) - isUsed(other)).reduce((kept, place) => {
+    const fewer = kept.filter(each => each !== place), condition = fewer.map(({ core, register, location, word }) => `${location ?? `${core}:${register}`}=${word}`).join(' /\\ ');
+    const input = test.replace(/^[ \t]*(~[ \t]*)?exists\b[^]*/m, () => `exists (${condition})\n`);
+    return Date.now() < until && asked({ command: 'why', json: true, model, cases: 100 }, input).text.startsWith('{"answer":"never"') ? fewer : kept;
+  }, wanted);
+  return few.length === wanted.length ? [] : [html('p', {}, `${wantedSentence(few)} ${few.length === 1 ? 'is' : 'are'} enough for that.`)];
+}
+
+/** Where caches are in sight: that a reason speaks of values alone, and where misses are counted. */
 function countsOffer() {
   const { options } = readSettings('run'), isCounting = document.querySelector('#commands [value=counts]') !== null;
   if (options === undefined || !showsCaches([options])) return [];
@@ -92,7 +102,7 @@ function countsOffer() {
   return [html('p', { class: 'buttons counts-offer' }, ...buttons, html('span', {}, `This sheet speaks of values alone. ${where}`))];
 }
 
-/** Buttons that save what the sheet draws, if it draws something, with the choice of its colours; and the one for a lecture. */
+/** Buttons that save what the sheet draws, the choice of its colours, and the one for a lecture. */
 function sheetTools(isDrawn) {
   const colours = byId('saved-colours').parentElement.cloneNode(true), [choice] = colours.children;
   choice.removeAttribute('id');
@@ -110,16 +120,25 @@ function refutedParts({ steps, leaves }) {
   return [html('div', { class: leaves <= FEW_TOGETHER ? 'refuted few' : 'refuted' }, html('div', { class: 'tree' }, treeList(treeOf(steps), steps, leaves <= FEW_LEAVES)), html('div', { class: 'drawn' }))];
 }
 
-function allowedParts(told, programs, proposition) {
-  const own = ownWords(told), { model, coherence } = told, late = lateRun(programs, DEPTH_OF[model]);
+/** A run of sequential consistency, on store buffers that drain at once where it is one there. */
+function calmOf(told, programs) {
+  const choices = drainedAtOnce(programs, told.choices), run = runOf(choices, 'tso');
+  return run !== null && isExecution(run.order, told) ? { ...told, model: 'tso', choices } : told;
+}
+
+function allowedParts(answered, programs, proposition, beside) {
+  const sequential = answered.asked && beside?.status === Tso.STATUS.good ? JSON.parse(beside.text) : null, isToo = sequential?.answer === 'allowed';
+  const isCalm = isToo && !ownWords(answered).isShown, told = isCalm ? calmOf(sequential, programs) : answered, own = ownWords(told);
+  const { model, coherence } = told, late = isCalm ? null : lateRun(programs, DEPTH_OF[model]);
   const choices = own.isShown ? own.choices : late && isExecution(late.run.order, told) ? late.choices : told.choices;
-  const loads = loadsThatPassed(choices, model), executed = edgesOf(told), cycle = forbiddenCycle(executed, programs, loads);
-  const passes = passEdges(loads, executed, cycle), first = [...cycle, ...passes], edges = [...first, ...executed.filter(edge => !first.includes(edge))];
-  const places = proposition === null ? null : wantedWords(proposition);
-  const asked = edges.length > MANY_EDGES && places !== null ? [...askedEdges(programs, executed, places, coherence), ...first] : edges;
+  const places = proposition === null ? null : wantedWords(proposition), wanted = places === null ? [] : askedPlaces(programs, places, coherence);
+  const executed = edgesOf(told), isMany = executed.length > MANY_EDGES && wanted.length > 0;
+  const loads = loadsThatPassed(choices, model), cycle = forbiddenCycle(executed, programs, loads, isMany ? wanted : []);
+  const passes = passEdges(loads, executed, cycle), few = [...cycle, ...askedEdges(executed, wanted)];
+  const edges = [...new Set(isMany ? [...few, ...executed, ...passes] : [...cycle, ...passes, ...few, ...executed])];
   const run = html('button', { type: 'button', 'data-choices': choices, 'data-depth': DEPTH_OF[model] }, 'Run it');
-  return [...sequentialPart(told), ...passesPart(loads, own.said, cycle), html('p', { class: 'buttons' }, run, ...choicesPart(choices)),
-    ...executionPart(programs, edges, edges.filter(edge => asked.includes(edge)), cycle), tablesPart(executionTables(told))];
+  return [...sequentialPart(sequential, isCalm && loads.length === 0), ...passesPart(loads, own.said, cycle, { isToo, isMany }), html('p', { class: 'buttons' }, run, ...choicesPart(choices)),
+    ...executionPart(programs, edges, isMany && few.length > 0 ? [...new Set(few)] : edges, cycle), tablesPart(executionTables(told), isCalm)];
 }
 
 /** An execution that is drawn, edge by edge: first its forbidden cycle, if it has one. */
@@ -134,13 +153,13 @@ function executionPart(programs, edges, few, cycle) {
 const FEW_TOLD = 16; // rows of tables that are open at first
 
 /** The tables of an execution, folded where they are long. */
-function tablesPart(tables) {
-  const part = html('details', { class: 'in-tables' }, html('summary', {}, 'Reads, writes and final values, in tables'), html('div', { class: 'beside' }, ...tables));
+function tablesPart(tables, isCalm) {
+  const part = html('details', { class: 'in-tables' }, html('summary', {}, 'Reads, writes and final values, in tables'), html('div', { class: 'beside' }, ...tables), isCalm ? html('p', { class: 'small faint' }, 'The answer as text has a run of its own.') : '');
   part.open = part.querySelectorAll('tbody tr').length <= FEW_TOLD;
   return part;
 }
 
-/** What one's own run has to do with an answer: whether it is the execution that is shown, its choices, and how a sentence names the shown run. */
+/** Whether one's own run is the one that is shown, its choices, and how a sentence names the shown run. */
 function ownWords(told) {
   const { test, count = 0 } = ownRun.kept ?? {}, made = count > 0 ? madeBefore() : '';
   const run = test === byId('test').value && count > 0 ? runOf(made, told.model) : null;
@@ -155,21 +174,12 @@ function runOf(choices, model) {
   return status === Tso.STATUS.good ? tellEntries(readLine(text.trim())) : null;
 }
 
-/** Whether it can be under sequential consistency too: asked in the worker, while the answer of TSO is read. If so, no fence is a cure. */
-function sequentialPart({ model, asked: wanted }) {
-  if (model !== 'tso' || wanted === null) return [];
-  const place = html('p', { class: 'sequential', role: 'status' });
-  const say = ([{ status, text }]) => {
-    if (status !== Tso.STATUS.good) return place.remove();
-    const isToo = JSON.parse(text).answer === 'allowed', cure = place.nextElementSibling.querySelector('.fine');
-    place.append(isToo ? html('strong', {}, 'No fence can forbid this end: sequential consistency allows it, too.') : 'Without store buffers (sequential consistency): it can\'t be.');
-    if (!isToo || cure === null) return;
-    cure.parentElement.style.minHeight = `${cure.parentElement.offsetHeight}px`; // so that nothing below moves
-    putText(cure, ' In another run that ends so, other loads may pass, or none.');
-  };
-  const { answers } = beginTask(bench.bytes, [{ command: 'why', json: true, model: 'sc', cases: POSSIBLE_CASES }], inputOf('why'));
-  answers.then(say).catch(() => place.remove());
-  return [place];
+/** What sequential consistency tells of the same end: if it can be there too, no fence is a cure. */
+function sequentialPart(told, isCalm) {
+  if (told === null) return [];
+  const said = told.answer !== 'allowed' ? ['Without store buffers (sequential consistency): it can\'t be.']
+    : [html('strong', {}, 'No fence can forbid this end: sequential consistency allows it, too.'), isCalm ? ' In the run shown here no load passes a store.' : ''];
+  return [html('p', { class: 'sequential' }, ...said)];
 }
 
 /** The choices of a run that was found, folded where they are many. */
@@ -186,7 +196,7 @@ const isOfCycle = (load, cycle) => cycle.some(({ relation, to }) => relation ===
 /** These loads as they are told: those of the cycle first. */
 const toldFirst = (loads, cycle) => [...loads].sort((one, other) => isOfCycle(other, cycle) - isOfCycle(one, cycle));
 
-/** What is told of loads and the cycle leaves out: program order from a store to a load that passed it, or where a load has its value from. */
+/** What is told of loads and no cycle has: program order to a load that passed a store, or where its value is from. */
 function passEdges(loads, executed, cycle) {
   const drawn = eventsOf(executed).map(({ text }) => nameOfEvent(text)), told = toldFirst(loads, cycle).slice(0, MOST_PASSES);
   return told.filter(load => !isOfCycle(load, cycle)).flatMap(({ text, location, passed }) => {
@@ -195,15 +205,15 @@ function passEdges(loads, executed, cycle) {
   });
 }
 
-/** What loads passed in the run that a sentence names so, and what keeps such an order. */
-function passesPart(loads, named, cycle) {
+/** What loads passed in the run that a sentence names so, and what keeps such an order. Of many those of the cycle. */
+function passesPart(loads, named, cycle, { isToo, isMany }) {
   const passes = toldFirst(loads, cycle).flatMap(passSentences), isOne = loads.length === 1;
   if (passes.length === 0) return [];
-  const title = isOne ? 'A load passes a store' : 'Loads pass stores', more = passes.splice(MOST_PASSES).length;
+  const title = isOne ? 'A load passes a store' : 'Loads pass stores', more = passes.splice(isMany ? Math.max(1, loads.filter(load => isOfCycle(load, cycle)).length) : MOST_PASSES).length;
   if (more > 0) passes.push(`And ${more} more.`);
   const enough = isOne ? ' One load that passes its store is enough.' : '';
-  const after = ' This is the one order of a program that TSO doesn’t keep. MFENCE or a locked instruction between the store and the load would keep it. ' +
-    'In another run that ends so, other loads may pass.';
+  const after = isToo ? ' In another run that ends so, other loads may pass, or none.'
+    : ' This is the one order of a program that TSO doesn’t keep. MFENCE or a locked instruction between the store and the load would keep it. In another run that ends so, other loads may pass.';
   return [html('p', {}, html('strong', {}, `${title} in ${named}: `), passes.join(' ') + enough, html('span', { class: 'fine' }, after))];
 }
 

@@ -111,7 +111,7 @@ def contrast_row(bench):
         bench.window.call("Emulation.setEmulatedMedia", features=[{"name": "prefers-color-scheme", "value": colours}])
         bench.open_fresh()
         look = "(%s)()" % CONTRAST.replace("summary, code'", "summary, code, button:enabled, .slot, .state, dfn, span'")
-        for act in ("true", "beginLesson('store-buffering'); enterStep(2)", "makeChoice('0s')", "endLesson(); findOutcomes()", "askWhy()"):
+        for act in ("true", "beginLesson('store-buffering'); enterStep(2)", "makeChoice('0s')", "enterStep(12)", "endLesson(); findOutcomes()", "askWhy()"):
             bench.value(act + "; true")
             bench.wait("!bench.task")
             faults += ["%s, after %s: %s" % (colours, act, fault) for fault in bench.value(look)]

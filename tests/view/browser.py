@@ -21,7 +21,7 @@ PLACE = """(found => {
   const { x, y, width, height } = found.getBoundingClientRect();
   return [x + width / 2, y + height / 2];
 })(document.querySelector(%s))"""
-KEY_CODES = {"End": 35, "Home": 36, "ArrowLeft": 37, "ArrowRight": 39}
+KEY_CODES = {"End": 35, "Home": 36, "ArrowLeft": 37, "ArrowRight": 39, "Escape": 27}
 
 
 class Browser:

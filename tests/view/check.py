@@ -23,7 +23,7 @@ apt-get install -y --no-install-recommends chromium poppler-utils
   the rows of machine.py and looks.py; and so it does where it once went wrong: the rows of repairs.py; what is saved and kept: those of kept.py. Why something can't be, or how it
   can, is told, drawn and run as the program tells it: the rows of reasons.py.
 
-- What teaches: lessons, tasks, terms (teaching.py, beginners.py); the larger set of instructions (larger.py); work that is long, undo, branches and ways
+- What teaches: lessons, tasks, terms (teaching.py, lessons.py, beginners.py); the larger set of instructions (larger.py); work that is long, undo, branches and ways
   back (working.py); a lecture, tables and forms (presenting.py); lists of tests (playlists.py); ways of edges that cross nothing, and what
   moves (drawn_edges.py); what WCAG 2.2 AA asks, as far as a script sees it (access.py); looks and layout (layout.py).
 - In Firefox, where Debian's firefox-esr is there, some of these rows.

@@ -1,6 +1,7 @@
 """Rows for pictures that stay clear: no way of an edge crosses a box or a word; what moves when a run is played."""
 import os
 
+import reasons
 from bench import differs, safety
 from driver import Driver
 from teaching import test_of
@@ -68,7 +69,7 @@ def left_out_row(bench):
     """Of many cores those without an arrow are left out, and of many arrows those that don't matter for what is asked; a box shows all."""
     bench.open_fresh(width=1280)
     faults, all_cores = [], ["P%d" % core for core in range(8)]
-    for word, few in ((0, ["P4", "P5"]), (1, ["P0", "P1", "P2", "P4", "P5"])):  # with the loads that are told
+    for word, few in ((0, ["P4", "P5"]), (1, ["P4", "P5"])):
         bench.fill("test", MANY % word)
         bench.value("askWhy()")
         bench.wait("!bench.task && document.querySelector('.reason .drawn-part')")
@@ -80,6 +81,89 @@ def left_out_row(bench):
         is_said = bench.text(".drawn-part .buttons").startswith("Drawn are all %d arrows." % every)
         faults += [] if is_said and (word == 0 or every > edges) else ["all arrows are %d" % edges]
         bench.value("backToRun()")
+    return faults + safety(bench)
+
+
+BIG = '''X86 big8
+{ }
+ P0 | P1 | P2 | P3 | P4 | P5 | P6 | P7 ;
+ MOV [w],$2 | MOV EAX,[x] | MOV EAX,[z] | MOV [x],$2 | MOV [z],$1 | MOV [z],$2 | MOV EAX,[y] | MOV [w],$3 ;
+ MOV EAX,[y] | MOV [y],$1 | MOV EBX,[z] | MOV [w],$1 | MOV [w],$3 | MOV EAX,[y] | MOV EBX,[w] | MOV EAX,[x] ;
+ MOV [w],$3 | MOV EBX,[w] | MOV [x],$2 | MOV [x],$1 | MOV EAX,[x] | MOV EBX,[w] | MOV ECX,[x] | MOV [y],$3 ;
+ MFENCE | MOV [y],$3 | MOV [z],$2 | MFENCE | MOV [y],$1 | MOV ECX,[y] | MFENCE | MOV [z],$2 ;
+ MOV [z],$1 | MOV [z],$2 | MOV [x],$3 | MOV [y],$2 | MOV [x],$3 | MOV EAX,[y] | MOV [z],$1 | MOV [x],$1 ;
+ MOV [x],$3 | XCHG [x],EDX | MOV [y],$1 | MOV EAX,[y] | MOV [z],$2 | XCHG [z],EDX | MOV EAX,[w] | MOV [z],$3 ;
+ MOV EBX,[w] | MOV [z],$2 | MOV [w],$2 | MOV [w],$1 | MOV [x],$1 | MOV EBX,[y] | MOV [w],$2 | MOV EBX,[y] ;
+ MOV ECX,[y] | MOV ECX,[x] | MOV [y],$3 | MOV [y],$1 | MOV EBX,[y] | MOV ECX,[y] | MOV EBX,[x] | MOV [y],$2 ;
+exists (0:ECX=0 /\\ 1:ECX=1 /\\ 2:EBX=0 /\\ 3:EAX=2 /\\ x=1)
+'''
+OPENED = """(() => {
+  const { cycle } = sheet, picture = cycle.picture.querySelector('svg'), box = cycle.picture.getBoundingClientRect();
+  return { shown: cycle.shown, count: document.querySelector('.cycle .buttons span').textContent, faint: document.querySelectorAll('.cycle .later').length,
+    first: cycle.cycle[0].from, fits: document.querySelector('.drawn-part label:last-of-type input').checked, isWhole: box.height <= innerHeight,
+    letters: 13 * picture.getBoundingClientRect().width / picture.viewBox.baseVal.width };
+})()"""
+FAINT = """(() => {
+  const light = colour => [0.2126, 0.7152, 0.0722].reduce((sum, part, at) => sum + part * ((colour[at] + 0.055) / 1.055) ** 2.4, 0);
+  const text = document.querySelector('.cycle [data-letters].later text'), canvas = new OffscreenCanvas(1, 1).getContext('2d');
+  const seen = fill => { canvas.fillStyle = fill; canvas.fillRect(0, 0, 1, 1); return [...canvas.getImageData(0, 0, 1, 1).data].slice(0, 3).map(each => each / 255); };
+  const [ink, chip] = [text, text.previousElementSibling].map(each => light(seen(getComputedStyle(each).fill))).sort();
+  return (chip + 0.05) / (ink + 0.05);
+})()"""
+
+
+def opened_row(bench):
+    """A picture of many arrows opens with none faint, and fits the screen where its letters stay large enough. It begins with what is asked for, in a run of sequential
+    consistency where there is one. Each step brings its arrow into sight, and faint letters can be read."""
+    bench.open_fresh(width=1280)
+    bench.window.resize(1280, 500)
+    bench.fill("test", BIG)
+    bench.value("askWhy()")
+    bench.wait("!bench.task && document.querySelector('.reason .drawn-part')")
+    told, count = bench.value(OPENED), bench.value("sheet.cycle.cycle.length")
+    faults = differs("at first", [told["shown"], told["count"], told["faint"], told["fits"], told["isWhole"]], [0, "%d arrows" % count, 0, True, True])
+    faults += [] if told["letters"] >= 9 and told["first"].startswith("P0:7 R") else ["letters and the first arrow: %s" % told]
+    faults += [] if "In the run shown here no load passes a store." in bench.text(".sequential") else ["it says " + bench.text(".sequential")]
+    for step in range(1, count + 1):
+        bench.value("document.querySelector('[data-edges=next]').click()")
+        seen = "(({ top, bottom }) => top >= 0 && bottom <= innerHeight)(document.querySelector('.cycle [data-letters].now').getBoundingClientRect())"
+        faults += differs("step %d" % step, bench.value("[%s, document.querySelector('.cycle .buttons span').textContent]" % seen), [True, "Arrow %d of %d" % (step, count)])
+        faults += [] if count == 1 or bench.value(FAINT) >= 3 else ["faint letters have a contrast of %.1f" % bench.value(FAINT)]
+    bench.value("document.querySelector('[data-edges=next]').click()")
+    faults += differs("the last step", bench.value("document.querySelector('.cycle .buttons span').textContent"), "All %d arrows" % count)
+    bench.window.resize(1280, 800)
+    return faults + safety(bench)
+
+
+FENCED = """X86 fenced
+{ }
+ P0          | P1          | P2          ;
+ MOV [x],$1  | MOV [y],$1  | MOV EAX,[x] ;
+ MFENCE      | MFENCE      | MOV EBX,[y] ;
+ MOV EAX,[y] | MOV EAX,[x] |             ;
+exists (2:EAX=1 /\\ 0:EAX=0 /\\ 2:EBX=%d /\\ 1:EAX=0)
+"""
+
+
+def enough_row(bench):
+    """Why it can't be names the words that are enough, those of the cycle first; where all are needed it says nothing of it. Keys ask for outcomes and why, and
+    Ctrl and Enter what was asked last, which stands over the test."""
+    bench.open_fresh()
+    faults = []
+    for word in (0, 1):
+        bench.fill("test", FENCED % word)
+        bench.value("askWhy()")
+        bench.wait("!bench.task && document.querySelector('.cycle')")
+        faults += differs("enough", bench.text(".reason > p:nth-of-type(2)"), "0 in P0's EAX and 0 in P1's EAX are enough for that.")
+    bench.load(reasons.text_of("SB+mfences"), "")
+    key = "document.body.dispatchEvent(new KeyboardEvent('keydown', { key: '%s', ctrlKey: %s, bubbles: true })), [currentCommand(), byId('enter-asks').textContent]"
+    for name, is_ctrl, told in (("w", "false", ["why", "Ctrl+Enter: Say why"]), ("o", "false", ["outcomes", "Ctrl+Enter: Find all outcomes"]), ("Enter", "true", ["outcomes", "Ctrl+Enter: Find all outcomes"])):
+        faults += differs("key " + name, bench.value(key % (name, is_ctrl)), told)
+        bench.wait("!bench.task && document.querySelector('#states .answer-title')")
+        if name == "w":
+            faults += differs("where all are needed", "enough" in bench.text(".reason"), False)
+        if name == "o":
+            bench.value("backToRun()")
     return faults + safety(bench)
 
 
@@ -113,5 +197,5 @@ def weights_row(bench):
 
 def rows(page, folder):
     bench = Driver(page)
-    return [("pictures that are clear", lambda: clear_row(bench, folder)), ("cores and arrows left out", lambda: left_out_row(bench)),
+    return [("pictures that are clear", lambda: clear_row(bench, folder)), ("cores and arrows left out", lambda: left_out_row(bench)), ("how a picture of many arrows opens", lambda: opened_row(bench)), ("the words that are enough", lambda: enough_row(bench)),
             ("what moves", lambda: motion_row(bench)), ("weights of buttons", lambda: weights_row(bench))]

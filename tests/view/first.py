@@ -70,13 +70,13 @@ def folds_row(bench):
 
 
 def tabs_row(bench):
-    """At most six tabs lead to the first button of a core, past two of lessons, and the first stop skips to it."""
+    """At most eight tabs lead to the first button of a core, past two of lessons and the folds of the bar, and the first stop skips to it."""
     bench.open_fresh()
     focused, stops = "document.activeElement.dataset.choice ?? document.activeElement.id", []
     while len(stops) < 12 and "0s" not in stops:
         bench.window.call("Input.dispatchKeyEvent", type="rawKeyDown", key="Tab", code="Tab", windowsVirtualKeyCode=9)
         stops.append(bench.value(focused))
-    faults = [] if len(stops) <= 6 else ["the stops are %s" % stops]
+    faults = [] if len(stops) <= 8 else ["the stops are %s" % stops]
     faults += differs("the first stop", stops[0], "skip")
     bench.value("byId('skip').focus(); byId('skip').click()")
     return faults + differs("after the skip", bench.value(focused), "0s") + safety(bench)
@@ -202,6 +202,53 @@ def marked_core_row(bench):
     return faults + differs("after the choice", bench.value(style), "none") + safety(bench)
 
 
+BOX = "(name => { const { left, right, top, bottom } = document.querySelector(name).getBoundingClientRect(); return { left, right, top, bottom }; })"
+
+
+def first_screen_row(bench):
+    """At 1280 by 800 the machine, its memory and the two main buttons are in sight under the words of what this is, the order is as high as the machine,
+    and what will stand there is said until something does."""
+    bench.open_fresh(width=1280)
+    bench.window.resize(1280, 800)
+    bench.value("byId('about').open = true; scrollTo(0, 0); redraw()")
+    parts = ["#first-lesson", "#task", "#test-part .opens", ".memory", "#find-outcomes", "#ask-why"]
+    faults = differs("out of sight", bench.value("%s.filter(name => %s(name).bottom > innerHeight)" % (json.dumps(parts), BOX)), [])
+    machine, order = bench.value("[%s('.machine').bottom, %s('.drawing').bottom]" % (BOX, BOX))
+    faults += [] if abs(machine - order) < 4 else ["the machine ends at %d, the order at %d" % (machine, order)]
+    said = "getComputedStyle(document.querySelector('.pictured'), '::after').content.includes('gets a row here')"
+    faults += differs("what will stand there", bench.value(said), True)
+    bench.value("for (const word of ['0s', '0d']) makeChoice(word)")
+    return faults + differs("once something does", bench.value(said), False) + safety(bench)
+
+
+def queue_row(bench):
+    """A store buffer is drawn as the opening picture is: a store goes in at the left, and the oldest, at the right, goes out above memory."""
+    bench.load("X86 queue\n{ }\n P0 ;\n MOV [x],$1 ;\n MOV [y],$1 ;\n MOV [z],$1 ;\n", "0s 0s 0s", {})
+    bench.value("goTo(3)")
+    lefts = "[...document.querySelectorAll('.core .slot')].map(each => [each.textContent, each.getBoundingClientRect().left])"
+    faults = differs("from the left", [text for text, _ in sorted(bench.value(lefts), key=lambda each: each[1])], ["z=1", "y=1", "x=1"])
+    low, high = bench.value("[%s('.core .buffer').bottom, %s('.memory').top]" % (BOX, BOX))
+    faults += [] if low < high else ["the buffer isn't above memory"]
+    slots, room = bench.value("(([a, b]) => [b.x + b.width, a.x + a.width])([...document.querySelectorAll('.buffer-part rect')].filter((_, at) => at !== 1).map(each => each.getBBox()))")
+    return faults + ([] if room - slots < 8 else ["the opening picture's stores aren't at the way out"]) + safety(bench)
+
+
+def bar_row(bench):
+    """Lessons and keys lie at the bar: one at a time, and each closes when one presses elsewhere or Escape, where the focus goes back to its name."""
+    bench.open_fresh(width=1280)
+    opened = "[...document.querySelectorAll('#folds [open]')].map(each => each.id)"
+    faults = []
+    for name in ("lessons-part", "keys"):
+        bench.window.click("#%s > summary" % name)
+        faults += differs("open", bench.value(opened), [name])
+    bench.value("byId('letter-keys').focus()")
+    bench.window.press("Escape")
+    faults += differs("after Escape", bench.value("[%s, document.activeElement.parentElement.id]" % opened), [[], "keys"])
+    bench.window.click("#lessons-part > summary")
+    bench.window.click("h1")
+    return faults + differs("after a press elsewhere", bench.value(opened), []) + safety(bench)
+
+
 CODE_SIZES = """[...document.querySelectorAll('.program code, .registers li, .memory li, .core-buttons code')].map(each => parseFloat(getComputedStyle(each).fontSize))"""
 
 
@@ -257,4 +304,5 @@ def rows(page, folder):
         ("what is folded at first", lambda: folded_row(bench, folder)),
         ("the core that keys act on", lambda: marked_core_row(bench)),
         ("large text", lambda: large_text_row(bench, folder)),
+        ("the first screen", lambda: first_screen_row(bench)), ("a buffer that is drawn", lambda: queue_row(bench)), ("folds of the bar", lambda: bar_row(bench)),
     ]

@@ -69,8 +69,8 @@ def stuck_head_row(bench):
     bench.value("document.body.style.paddingBottom = '1000px', scrollBy(0, byId('frame').getBoundingClientRect().top - 20)")
     strip = "Math.round(byId('names').getBoundingClientRect().top - byId('stepper').getBoundingClientRect().bottom)"
     faults += differs("no strip between the bar and larger names", bench.value(strip), 0)
-    notes = "(([a, b, c]) => [a.left === b.left, a.top >= b.bottom, c.left > b.right])(['.drawing > aside', '#machines', '#frame'].map(each => document.querySelector(each).getBoundingClientRect()))"
-    return faults + differs("the notes under the machine, beside the picture", bench.value(notes), [True, True, True]) + safety(bench)
+    notes = "(([a, b, c]) => [a.left === c.left, a.top >= c.bottom, c.left > b.right, Math.abs(a.bottom - b.bottom) < 4])(['.drawing > aside', '#machines', '.pictured'].map(each => document.querySelector(each).getBoundingClientRect()))"
+    return faults + differs("the notes under the picture, beside the machine, and both as high", bench.value(notes), [True, True, True, True]) + safety(bench)
 
 
 def large_row(bench):
@@ -124,14 +124,14 @@ def still_lecture_row(bench):
 def folded_list_row(bench):
     """An open list folds when one goes to a test or asks for an answer, with the focus at its name; its entries go up and down."""
     bench.open_fresh(width=1280)
-    bench.value("addToList(); loadText('MP.litmus'); addToList(); showList()")
+    bench.value("addToList(); loadText('MP.litmus'); addToList(); byId('list-part').open = true")
     names = "taught.list.map(({ name }) => name.split(':')[0])"
     press(bench, "#list li:first-child [aria-label$=' down']")
     faults = differs("moved down", bench.value(names), ["Message passing", "Store buffering"])
     faults += differs("the last can't", bench.value("document.querySelector('#list li:last-child [aria-label$=\" down\"]').disabled"), True)
     press(bench, "#list li:last-child [data-listed]")
     faults += differs("after a test", bench.value("[byId('list-part').open, document.activeElement === byId('list-part').firstElementChild]"), [False, True])
-    bench.value("showList(); findOutcomes()")
+    bench.value("byId('list-part').open = true; findOutcomes()")
     return faults + differs("after a question", bench.value("byId('list-part').open"), False) + safety(bench)
 
 

@@ -65,13 +65,13 @@ def list_row(bench, folder):
 
 
 def clicker_row(bench):
-    """A clicker's key says what to do where no choice is known, and again leads on; it names the next test at a run's end, and leads there from
-    a cycle's end and a sheet's too."""
+    """The foot says what a clicker's key does next: where no choice is known and at a run's end it leads to the next test, and so it does from
+    a cycle's end and a sheet's."""
     bench.open_fresh()
     bench.value("addToList(); loadText('MP.litmus'); addToList(); askWhy()")
     bench.wait("!bench.task && document.querySelector('.cycle')")
     press(bench, "#way-back [data-add-to-list]")
-    faults = differs("a sheet of the list", bench.text("#way-back .listed"), "Added as 3 of 3. See the list ↑")
+    faults = differs("a sheet of the list", bench.text("#way-back .listed"), "Added as 3: Message passing (why).")
     bench.value("openListed(0); addToList(); findOutcomes()")
     bench.wait("!bench.task && document.querySelector('.states-sheet')")
     bench.value("openListed(2); putLecture(true)")
@@ -80,16 +80,13 @@ def clicker_row(bench):
     bench.value(CLICKED % "PageDown")
     faults += differs("after a cycle", bench.value("[playlist.at, drive.isOn, testName()]"), [3, True, "SB"])
     bench.value("taught.list.pop(); openListed(0)")
+    faults += differs("said before it comes", bench.value("playlist.where"), "PageDown: next test: Message passing")
     bench.value(CLICKED % "PageDown")
-    said = ("No choices yet, so PageDown has nothing to step: press a step or a drain of a core. "
-            "PageDown once more: the next test, Message passing: the run.")
-    faults += differs("said", bench.text("#sentence"), said)
-    bench.value(CLICKED % "PageDown")
-    faults += differs("by the second press", bench.value("testName()"), "MP")
+    faults += differs("by one press", bench.value("testName()"), "MP")
     bench.value("openListed(0)")
     for choice in "0s 1s 0s 1s 0d 1d".split():
         press(bench, "[data-choice='%s']" % choice)
-    faults += differs("the next, whose name would tell the answer", bench.value("byId('list-bar').lastElementChild.textContent"), "Next ▶")
+    faults += differs("the next", bench.value("byId('list-bar').lastElementChild.textContent"), "Message passing ▶")
     bench.value(CLICKED % "PageDown")
     faults += differs("the next", bench.value("testName()"), "MP")
     bench.value("putLecture(false)")
@@ -110,7 +107,7 @@ def updated(bench):
 
 def changed_row(bench):
     """An entry that is changed is said to be in the bar, with what updates it; it is as it was left when one comes back, and in a lecture as the list has it."""
-    bar, words = "document.querySelector('#list-bar span').textContent", "settingOf('words').value"
+    bar, words = "whereInList()", "settingOf('words').value"
     bench.open_fresh()
     bench.value("loadText('MP.litmus'); addToList(); loadText('false-sharing.litmus'); addToList(); goTo(3)")
     bench.wait("location.hash.includes('at=3')")
@@ -151,16 +148,15 @@ def kept_list_row(bench):
     """A list says what was added, takes no test twice, and outlives a reload; what stands beside the machine belongs to its test; and a saved page is named."""
     bench.open_fresh()
     press(bench, "#add-to-list")
-    faults = differs("added", bench.text("#listed"), "Added as 1 of 1. See the list ↑")
+    faults = differs("added", bench.text("#listed"), "Added as 1: Store buffering (the test).")
     press(bench, "#add-to-list")
-    faults += differs("twice", [bench.text("#listed"), bench.value("taught.list.length")], ["It is there already, as 1 of 1. See the list ↑", 1])
-    press(bench, "#listed [data-to-list]")
-    faults += differs("the list in sight", is_in_sight(bench, "#list"), True)
+    faults += differs("twice", [bench.text("#listed"), bench.value("taught.list.length")], ["It is there already, as 1: Store buffering (the test).", 1])
+    faults += differs("the list in sight", [is_in_sight(bench, "#saves #list-said"), bench.text("#list-said")], [True, "List: 1 Store buffering (the test)"])
     faults += updated(bench)
     bench.value("putBeside(JSON.stringify(ABREAST)); takeFromLibrary('MP.litmus')")
     faults += differs("beside the next test", bench.value("[drive.beside, drive.histories.length]"), [None, 1])
     press(bench, "#add-to-list")
-    faults += differs("added", bench.text("#listed"), "Added as 2 of 2. See the list ↑")
+    faults += differs("added", bench.text("#listed"), "Added as 2: Message passing (the run).")
     bench.value("new Promise(done => setTimeout(done, 300))")
     bench.window.reload()
     bench.value(READY)
@@ -212,13 +208,11 @@ def in_run_row(bench):
         after.append(bench.value("[playlist.at, drive.isOn, drive.count]"))
     faults = differs("after a sheet", after, [[1, True, 2]] * 2)
     bench.value("makeChoice('0s', true)")
-    bench.value(CLICKED % "PageDown")
-    faults += [] if bench.text("#sentence").endswith("PageDown once more: back to the prepared run.") else ["it says " + bench.text("#sentence")]
+    faults += differs("said of it", bench.value("playlist.where"), "PageDown: back to the prepared run")
     bench.value(CLICKED % "PageDown")
     faults += differs("taken again", bench.value("[drive.words, drive.count]"), [known, 2])
     bench.value("goTo(drive.words.length)")
-    bench.wait("playlist.where === whereInList()")
-    faults += differs("the end", bench.value("byId('list-bar').lastElementChild.textContent"), "The end of the list")
+    faults += differs("the end", bench.value("playlist.where"), "The end: PageUp goes back")
     bench.value("putLecture(false)")
     return faults + safety(bench)
 
@@ -273,7 +267,7 @@ def reloaded(bench, is_ready="drive.isOn"):
     bench.window.reload()
     bench.value(READY)
     bench.wait("!bench.task && " + is_ready)
-    return bench.value("[playlist.at, drive.count, isLecture(), document.querySelector('#list-bar span').textContent]")
+    return bench.value("[playlist.at, drive.count, isLecture(), whereInList()]")
 
 
 def reloaded_lecture_row(bench, folder):
@@ -300,22 +294,22 @@ def reloaded_lecture_row(bench, folder):
     return faults + safety(bench)
 
 
-EARLY = "[...document.querySelectorAll('[data-early]')].map(each => [getComputedStyle(each).visibility, getComputedStyle(each, '::before').content])"
+EARLY = "[...document.querySelectorAll('[data-early]'), byId('asked-line')].map(each => getComputedStyle(each).visibility)"
 
 
 def untold_row(bench):
-    """A lecture doesn't name what comes next, has the question over its machine, and says with the last arrow whether it can be; Escape ends it."""
+    """A lecture names what comes next by its test alone, has the question over its machine, and says with the last arrow whether it can be; Escape ends it."""
     bench.open_fresh()
     bench.value("addToList(); loadText('store-buffering-fenced.litmus'); askWhy()")
     bench.wait("!bench.task && document.querySelector('.cycle')")
     bench.value("addToList(); putLecture(true); openListed(0)")
     bar = bench.value("[byId('list-bar').lastElementChild.textContent, byId('asked-line').textContent, byId('asked-line').checkVisibility()]")
-    faults = differs("the bar and the question", bar, ["Next \u25b6", "Can both loads read 0?", True])
+    faults = differs("the bar and the question", bar, ["Store buffering with fences \u25b6", "Can both loads read 0?", True])
     bench.value("openListed(1)")
     bench.wait("!bench.task && document.querySelector('.cycle')")
-    faults += differs("at the first arrow", bench.value(EARLY), [["hidden", '"Can it be?"'], ["hidden", '"Can both loads read 0, past the fences?"']])
+    faults += differs("at the first arrow", bench.value(EARLY), ["hidden", "hidden", "visible"])
     bench.value("sheet.cycle.move('all')")
-    faults += differs("at the last", bench.value(EARLY), [["visible", "none"]] * 2)
+    faults += differs("at the last", bench.value(EARLY), ["visible"] * 3)
     faults += differs("no Tab leads to what is off", bench.value("[...document.querySelectorAll('[data-edges]')].map(each => each.tabIndex)"), [0, 0, -1, -1])
     bench.value("document.body.dispatchEvent(new KeyboardEvent('keydown', { key: 'Escape', bubbles: true }))")
     return faults + differs("after Escape", bench.value("isLecture()"), False) + safety(bench)

@@ -10,7 +10,7 @@ from kept import saved_page
 from playlists import CLICKED
 from teaching import is_in_sight, press, test_of
 
-IN_SIGHT = "['#find-outcomes', '#ask-why', '[data-choice]', '.memory', '#frame', '#passes', '#sentence', '#undo'].filter(each => { const { bottom, height } = document.querySelector(each).getBoundingClientRect(); return height === 0 || bottom > innerHeight; })"
+IN_SIGHT = "['#find-outcomes', '#ask-why', '[data-choice]', '.memory', '#frame', '#passes', '#sentence'].filter(each => { const { bottom, height } = document.querySelector(each).getBoundingClientRect(); return height === 0 || bottom > innerHeight; })"
 
 
 def lecture_hall_row(bench, folder):
@@ -34,9 +34,9 @@ def lecture_hall_row(bench, folder):
         bench.value(CLICKED % key)
         shown.append(bench.value("sheet.cycle.shown"))
     faults += differs("edges", shown, [1, 2, 3, 2])
-    room = bench.value("(({ width, right, bottom }, tree) => [width > 1100, right <= innerWidth, bottom <= innerHeight, tree.getBoundingClientRect().right < innerWidth / 2])"
+    room = bench.value("(({ width, right, bottom }, tree) => [width > 1100, right <= innerWidth, bottom <= innerHeight, tree.getBoundingClientRect().top >= bottom])"
                        "(document.querySelector('.cycle figure').getBoundingClientRect(), document.querySelector('.tree'))")
-    faults += differs("the cycle is large, with its tree beside it", room, [True] * 4)
+    faults += differs("the cycle is large, with its low tree below it", room, [True] * 4)
     bench.window.screenshot(os.path.join(folder, "lecture-cycle.png"), whole=False)
     press(bench, "#to-run")
     press(bench, "#find-outcomes")

@@ -127,7 +127,7 @@ def faults_of_tree(shown, wanted, name):
 def faults_of_cycle(bench, cycle):
     """What is drawn of a cycle, all of it and edge by edge."""
     faults, length = [], len(cycle)
-    for way, shown in [("all", length), ("first", 1)] + [("next", at) for at in range(2, length + 1)] + [("back", length - 1), ("all", length)]:
+    for way, shown in [("next", 1), ("all", length), ("first", 1)] + [("next", at) for at in range(2, length + 1)] + [("back", length - 1), ("all", length)]:
         bench.value("document.querySelector('[data-edges=%s]').click()" % way)
         got = bench.value(CYCLE)
         faults += differs("edges at %d" % shown, got["edges"], [[LETTERS.get(edge["relation"], edge["relation"]), at >= shown, at == shown - 1] for at, edge in enumerate(cycle)])
@@ -222,10 +222,10 @@ def stepped_row(bench):
     bench.open()
     ask(bench, "SB", "tso")
     shown = [bench.value(step)]
-    for _ in range(3):
+    for _ in range(4):
         bench.value("sheet.cycle.move('next')")
         shown.append(bench.value(step))
-    faults = differs("of SB", shown, [[at, 4, [edge]] for at, edge in enumerate(("edge-unkept", "edge-fr", "edge-unkept", "edge-fr"), 1)])
+    faults = differs("of SB", shown, [[0, 4, []]] + [[at, 4, [edge]] for at, edge in enumerate(("edge-unkept", "edge-fr", "edge-unkept", "edge-fr"), 1)])
     end = bench.text(".cycle .edge-said strong")
     faults += differs("the end", end, "So this run needs store buffers: without them P0:0 W x=1 would be before itself. TSO doesn’t keep the dashed arrows.")
     bench.load(TWO, "")
@@ -329,7 +329,7 @@ def saved_row(bench):
             made.append([told_by_picture(text) for text in bench.value(SAVED)])
         return made, bench.value("(async () => %s)()" % POINTS)
     (cycle, execution), points = kept.in_dark(bench, pictures)
-    grounds = ["rgb(255, 255, 255)", "rgb(22, 24, 27)"]
+    grounds = ["rgb(255, 255, 255)", "rgb(32, 36, 41)"]
     faults = differs("the cycle", cycle, [[ground, True, 4, "A cycle of 4 edges"] for ground in grounds])
     faults += differs("grounds of the execution", [each[0] for each in execution], grounds)
     faults += differs("the execution", [each[1:] for each in execution], [[True, execution[0][2], "The execution"]] * 2)

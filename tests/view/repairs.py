@@ -237,7 +237,7 @@ def words_row(bench):
     case = bench.value("caseWords([['P4:2 LR w from initial'], ['P4:2 LR w from P0:7 W w=5']])")
     faults += differs("a case", case, "Whichever of these P4:2 LR w reads, the initial value or what P0:7 W w=5 writes")
     bench.value("beginLesson('fences', 1); document.querySelector('[data-choice=\"0s\"]').click()")
-    return faults + differs("the focus", bench.value("document.activeElement.id"), "lesson-next") + safety(bench)
+    return faults + differs("the focus", bench.value("document.activeElement.dataset.choice"), "1s") + safety(bench)
 
 
 THREE = "X86 three\n{ }\n P0 | P1 | P2 ;\n MOV [x],$1 | MOV EAX,[x] | MOV EAX,[x] ;\nexists (1:EAX=1)\n"
@@ -290,6 +290,27 @@ CERTAIN = """(() => {
 COPIED = "X86 copied\n{ }\n P0 | P1 ;\n mov dword ptr [x], 1 | mov dword ptr [x], 1 ;\n MOV EAX,[y] | movl $2, y ;\n %s | MOV EAX,[x] ;\nexists (0:EAX=0)\n"
 
 
+CHANGED = "Changed: 3 places: line 4: mov dword ptr [x], 1 became MOV [x],$1; line 5: movl $2, y became MOV [y],$2. Undo takes all back. "
+LISTING = "f():\n  push rbp\n  mov rbp, rsp\n  mov DWORD PTR x[rip], 1  # x\n  lock or DWORD PTR [rsp], 0\n  mov r8d, DWORD PTR y[rip]\n  mov eax, DWORD PTR y[rip]\n  ret\ng():\n  .cfi_startproc\n  movl $1, y(%rip)\n"
+LISTED = "X86 pasted\n{ }\n P0          | P1         ;\n MOV [x],$1  | MOV [y],$1 ;\n MFENCE      |            ;\n MOV EBX,[y] |            ;\n MOV EAX,[y] |            ;\n"
+FOREIGN = "X86 foreign\n{ }\n P0 | P1 ;\n MOV EAX,[x] | MOV R8D,[x] ;\n MOV R8D,[y] | MOV EAX,[y] ;\n MOV [x],R8D | MOV EBX,[y] ;\nexists (0:R8D=1 /\\ 1:R8D=1)\n"
+RENAMED = "X86 foreign\n{ }\n P0          | P1          ;\n MOV EAX,[x] | MOV ECX,[x] ;\n MOV EBX,[y] | MOV EAX,[y] ;\n MOV [x],EBX | MOV EBX,[y] ;\nexists (0:EBX=1 /\\ 1:ECX=1)\n"
+
+
+def listing_row(bench):
+    """A compiler's listing becomes a test by one press, and a register that isn't read here one that its core doesn't use, in the condition too. It says what became of them."""
+    faults = []
+    for text, name, written, said in ((LISTING, "Write it as a test", LISTED, "a test of 2 cores"), (FOREIGN, "Write it so", RENAMED, "P1: R8D became ECX; P0: R8D became EBX")):
+        bench.open_fresh()
+        bench.fill("test", text)
+        faults += differs("offered", bench.value("[byId('write-so').hidden, byId('write-so').textContent]"), [False, name])
+        press(bench, "#write-so")
+        faults += differs("written", bench.value("byId('test').value"), written)
+        faults += [] if said in bench.text(".writing .noticed") else ["it says " + bench.text(".writing .noticed")]
+    faults += differs("with a jump", bench.value("listingAsTest('f:\\n mov eax, x\\n.L2:\\n')"), None)
+    return faults + safety(bench)
+
+
 def certain_row(bench):
     """What a hint names certainly is written in its line: a row's end, a register, LOCK, and the signs of a condition. Then columns are aligned."""
     faults = []
@@ -316,10 +337,10 @@ def written_row(bench):
         press(bench, "#write-so")
         rows = bench.value("byId('test').value.split('\\n').slice(3, 5).map(row => row.replace(/ +/g, ' '))")
         faults += differs("the test", rows, [" MOV [x],$1 | MOV [x],$1 ;", " MOV EAX,[y] | MOV [y],$2 ;"])
-        faults += differs("said", bench.text(".writing .noticed"), "Changed: 3 places. Undo takes all back. ")
+        faults += differs("said", bench.text(".writing .noticed"), CHANGED)
         faults += differs("then", bench.value("[byId('write-so').hidden, drive.isOn]"), [True, not is_left])
         bench.value("answerNow()")
-        faults += differs("said after another answer", bench.text(".writing .noticed"), "" if is_left else "Changed: 3 places. Undo takes all back. ")
+        faults += differs("said after another answer", bench.text(".writing .noticed"), "" if is_left else CHANGED)
         bench.value("undo()")
         faults += differs("undone", bench.value("byId('test').value"), COPIED % cell)
     return faults + safety(bench)
@@ -333,7 +354,7 @@ def rows(page, folder):
         ("many choices of which few are used", lambda: few_choices_row(bench)),
         ("texts that are too long", lambda: long_text_row(bench)),
         ("arrows at a wide picture", lambda: arrows_row(bench)),
-        ("what is certain, written", lambda: written_row(bench)), ("what is certain, in each hint", lambda: certain_row(bench)),
+        ("what is certain, written", lambda: written_row(bench)), ("what is certain, in each hint", lambda: certain_row(bench)), ("what is certain of a listing", lambda: listing_row(bench)),
         ("stops of the tab key", lambda: stops_row(bench)),
         ("seeds that are none", lambda: seed_row(bench)),
         ("a control character in a name", lambda: control_row(bench)),

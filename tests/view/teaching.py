@@ -6,6 +6,7 @@ import re
 from bench import DIVIDING_LINE, EXAMPLES, FIRST, READY, differs, read, safety
 from driver import Driver
 from kept import faults_of_form, saved_page
+from lessons import focus_row, guided_row, press, views_row
 
 GALLERY = os.path.join(EXAMPLES, "gallery")
 TEST = read(EXAMPLES, FIRST).partition(DIVIDING_LINE)[0]
@@ -21,10 +22,6 @@ def test_of(name):
 
 def is_in_sight(bench, selector):
     return bench.value(IS_IN_SIGHT % json.dumps(selector))
-
-
-def press(bench, selector):
-    bench.window.click(selector)
 
 
 def about_row(bench, folder):
@@ -83,14 +80,16 @@ def plain_row(bench):
 
 
 def go_through(bench, faults, shows="true"):
-    """Goes through a lesson by its own buttons and those of the cores; `shows` is true of what a step shows. Answers the steps."""
+    """Goes through a lesson by its own buttons and those of the cores; `shows` is true of what a step shows. Answers the steps. A choice is told
+    at the step before it, and a question comes by itself after a choice whose picture isn't spoken of."""
     steps = bench.value("lesson.told.steps")
     for at, step in enumerate(steps):
-        faults += differs("the step", bench.value("lesson.at"), at)
+        follows = steps[at + 1] if at + 1 < len(steps) and "test" not in steps[at + 1] else {}
+        goes_on = "do" in step and "ask" in follows and "look" not in step
         if "do" in step:
             faults += differs("marked", bench.value("[...document.querySelectorAll('.wanted')].map(each => each.dataset.choice)"), [step["do"]])
-            faults += differs("done before it is done", bench.value("lesson.isDone"), False)
             press(bench, "[data-choice='%s']" % step["do"])
+        faults += differs("the step", bench.value("lesson.at"), at + goes_on)
         if "ask" in step:
             press(bench, "[data-answer=%s]" % json.dumps(step["answers"][-1]))
         if "show" in step:
@@ -99,10 +98,12 @@ def go_through(bench, faults, shows="true"):
             faults += differs("shown", bench.value(shows), True)
         if step.get("look"):
             faults += differs("the picture is marked", bench.value("byId('frame').matches('.looked')"), True)
-        faults += differs("done", bench.value("lesson.isDone"), True)
+        faults += differs("done", bench.value("lesson.isDone"), not goes_on)
         after = step.get("then") or step.get("because")
         faults += [] if after is None or after in bench.text("#lesson-words") else ["it says " + bench.text("#lesson-words")]
-        if at + 1 < len(steps):
+        is_next = not goes_on and "do" not in follows
+        faults += differs("Next at step %d" % at, bench.value("byId('lesson-next').checkVisibility()"), is_next)
+        if is_next and at + 1 < len(steps):
             press(bench, "#lesson-next")
     return steps
 
@@ -143,84 +144,6 @@ def faults_of_part(bench, test, steps, extra):
     return faults
 
 
-def guided_row(bench):
-    """A choice that the lesson doesn't wait for isn't made, but the next step's own is, in the place of Next; Back leads to the step before; a reload stays; leaving frees the machine."""
-    bench.open_fresh()
-    press(bench, "#first-lesson")
-    faults = differs("the focus", bench.value("document.activeElement.id"), "lesson-next")
-    bench.value("enterStep(2)")
-    press(bench, "[data-choice='1s']")
-    refused = "The lesson goes on with step at P0. Leave the lesson to go your own way."
-    told = bench.value("(box => [drive.count, box.textContent, box.matches('.wrong'), byId('sentence').textContent])(byId('lesson-after'))")
-    faults += differs("in its box", told, [0, refused, True, ""])
-    faults += differs("no room over the machine while nothing is said there", bench.value("byId('stepper').getClientRects().length"), 0)
-    faults += [] if bench.text("#lesson-place").endswith(": first press step at P0") else ["at Next it says " + bench.text("#lesson-place")]
-    press(bench, "[data-choice='0s']")
-    press(bench, "[data-choice='1s']")
-    faults += differs("the next step's own choice, pressed in the place of Next", bench.value("[lesson.at, lesson.isDone, drive.words, byId('sentence').textContent]"), [3, True, ["0s", "1s"], ""])
-    bench.value("enterStep(2)")
-    press(bench, "[data-choice='0s']")
-    press(bench, "#lesson-next")
-    press(bench, "#lesson-back")
-    faults += differs("after Back", bench.value("[lesson.at, drive.count, lesson.isDone]"), [2, 0, False])
-    press(bench, "[data-choice='0s']")
-    press(bench, "#lesson-next")
-    bench.wait("location.hash.includes('step=3')")
-    bench.window.reload()
-    bench.value(READY)
-    bench.wait("lesson.told !== null")
-    faults += differs("after a reload", bench.value("[lesson.told.name, lesson.at, drive.words]"), ["store-buffering", 3, ["0s"]])
-    press(bench, "#lesson-leave")
-    press(bench, "[data-choice='0s']")
-    free = bench.value("[lesson.told, drive.words, byId('lesson').hidden, byId('task').hidden]")
-    faults += differs("free, where one was", free, [None, ["0s", "0s"], True, False])
-    press(bench, "#lesson-again")
-    faults += differs("in the lesson again", bench.value("[lesson.at, drive.words]"), [3, ["0s"]])
-    bench.value("beginLesson('false-sharing'); enterStep(lesson.told.steps.length - 1)")
-    press(bench, "#lesson-leave")
-    faults += differs("its run is kept", bench.value("[drive.isOn, drive.words.length, byId('left-lesson').hidden]"), [True, 7, False])
-    press(bench, "#to-first-test")
-    faults += differs("back to store buffering", bench.value("[testName(), drive.words, byId('left-lesson').hidden]"), ["SB", [], True])
-    return faults + safety(bench)
-
-
-FOCUS = "(({ id, dataset, textContent }) => id || dataset.choice || dataset.edges || textContent)(document.activeElement)"
-
-
-def focus_row(bench):
-    """In a lesson the focus is always at what goes on: at the question after a refused key, at Next after an answer and after what a step shows;
-    the last arrow of a cycle keeps it. A lesson of two tests counts the steps of each."""
-    bench.open_fresh()
-    press(bench, "#first-lesson")
-    bench.value("document.activeElement.click()")
-    faults = differs("at a question", bench.value(FOCUS), "lesson-said")
-    bench.key_choice("1s")
-    faults += differs("after a refused key", bench.value("[%s, drive.count]" % FOCUS), ["lesson-said", 0])
-    press(bench, "[data-answer=Yes]")
-    faults += differs("after an answer", bench.value(FOCUS), "lesson-next")
-    bench.value("document.activeElement.click()")
-    faults += differs("at a choice", bench.value(FOCUS), "0s")
-    bench.value("enterStep(12)")
-    press(bench, "[data-show]")
-    bench.wait("!bench.task && document.querySelector('.states-sheet')")
-    faults += differs("after all outcomes", bench.value("[%s, document.querySelector('[data-show]').matches('.main')]" % FOCUS), ["lesson-next", False])
-    bench.value("enterStep(4)")
-    press(bench, "[data-answer='1']")
-    outlined = "[...document.querySelectorAll('[data-answer]')].map(each => getComputedStyle(each).outlineStyle)"
-    faults += differs("the right answer is outlined after a wrong one", bench.value(outlined), ["solid", "none"])
-    bench.value("enterStep(13)")
-    faults += differs("Next names the part", bench.text("#lesson-next"), "Next: What does a core see of its own stores?")
-    places = [bench.value("enterStep(%d), byId('lesson-place').textContent.split(':')[0]" % at) for at in (13, 14)]
-    faults += differs("parts", places, ["Part 1 of 2, step 14 of 14", "Part 2 of 2, step 1 of 10"])
-    bench.value("beginLesson('fences'); enterStep(12)")
-    press(bench, "[data-show]")
-    bench.wait("!bench.task && document.querySelector('.cycle')")
-    for _ in range(3):
-        press(bench, "[data-edges=next]")
-    faults += differs("at the last arrow", bench.value("[%s, sheet.cycle.shown]" % FOCUS), ["next", 4])
-    return faults + safety(bench)
-
-
 def lost_row(bench):
     """Where a load has returned another word than the task wants, the page says that this run can't reach it, and Undo leads out."""
     bench.open_fresh()
@@ -253,7 +176,7 @@ def plain_words_row(bench):
         faults += [] if bench.text("#states p").startswith(begins) else ["of %s it says %s" % (name, bench.text("#states p"))]
     bench.value("askWhy()")
     bench.wait("!bench.task && document.querySelector('.cycle')")
-    faults += [] if bench.text(".cycle .buttons").strip().endswith("Step 1 of 4") else ["the cycle begins at " + bench.text(".cycle .buttons")]
+    faults += [] if bench.text(".cycle .buttons").strip().endswith("4 arrows") else ["the cycle begins at " + bench.text(".cycle .buttons")]
     hint = "hint: give more; 2 stalled: 0s Fence (0d first), 1d Empty (no store)"
     faults += differs("a hint", bench.said(hint), "hint: give more; 2 did nothing: 0s (it waits for 0d), 1d (no store)")
     bench.open_fresh()
@@ -377,7 +300,7 @@ def rows(page, folder):
         ("a lesson, false sharing", lambda: lesson_row(bench, "false-sharing", "document.querySelectorAll('.machine').length === 4 && " + SHARES)),
         *([("a lesson, compare and exchange", lambda: lesson_row(bench, "compare-and-exchange", "document.querySelector('.reason') !== null"))] if has_larger_set(bench) else []),
         ("a lesson that guides", lambda: guided_row(bench)),
-        ("the focus in a lesson", lambda: focus_row(bench)),
+        ("the focus in a lesson", lambda: focus_row(bench)), ("a lesson shows its views again", lambda: views_row(bench)),
         ("a lesson of the documents", lambda: documented_row(bench)),
         ("a lesson of a teacher", lambda: taught_row(bench, folder)),
         ("tasks", lambda: tasks_row(bench)),

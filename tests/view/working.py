@@ -49,7 +49,7 @@ def met_before_row(bench):
     faults += differs("what never is isn't known", bench.value("/never/i.test(byId('states').textContent)"), False)
     limit = bench.value("JSON.parse(working.progress.answer.text).unfinished.states")
     bench.value("byId('report-part').open = true; byId('as-printed').click()")
-    bench.wait("byId('report').textContent.startsWith('Unfinished states %d')" % limit)
+    bench.wait("byId('report').textContent.startsWith('Unfinished states=%d')" % limit)
     return faults + differs("shown", shown, [met, "Some outcomes", True])
 
 
@@ -90,7 +90,7 @@ def stopped_row(bench):
     press(bench, "[data-save=reason-svg]")
     text = bench.value("saved[0].text()")
     faint = [opacity for opacity in re.findall(r'opacity="([\d.]+)"', text) if float(opacity) < .5]
-    faults += differs("faint edges of a saved cycle that stands at its first", [faint, bench.value("sheet.cycle.shown")], [[], 1])
+    faults += differs("faint edges of a saved cycle that stands at its first", [faint, bench.value("sheet.cycle.shown")], [[], 0])
     return faults + safety(bench)
 
 

@@ -1,0 +1,116 @@
+"""Rows for a lesson that runs: what guides the reader, where the focus is, and what is shown again."""
+
+from bench import READY, differs, safety
+
+
+def press(bench, selector):
+    bench.window.click(selector)
+
+
+def guided_row(bench):
+    """A choice that the lesson doesn't wait for is made, and one press leads back; while a question waits none is. The next step's own choice is made in
+    the place of Next; Back leads to the step before; a reload stays; leaving frees the machine."""
+    bench.open_fresh()
+    press(bench, "#first-lesson")
+    faults = differs("the focus", bench.value("document.activeElement.id"), "lesson-next")
+    bench.value("enterStep(2)")
+    press(bench, "[data-choice='1s']")
+    told = bench.value("[drive.words, byId('lesson-after').textContent, byId('sentence').textContent, byId('stepper').getClientRects().length]")
+    faults += differs("another choice, in the lesson's box", told, [["1s"], "You may go your own way. " + bench.value("drawn.panels[0].sentences.join(' ')"), "", 0])
+    faults += differs("the way back", bench.text("#lesson-back"), "Back to the lesson\u2019s place")
+    press(bench, "#lesson-back")
+    faults += differs("back", bench.value("[lesson.at, lesson.isDone, drive.words, byId('lesson-back').textContent]"), [2, False, [], "Back"])
+    press(bench, "[data-choice='0s']")
+    press(bench, "[data-choice='1s']")
+    faults += differs("the next step's own choice, and its question by itself", bench.value("[lesson.at, lesson.isDone, drive.words, byId('sentence').textContent]"), [4, False, ["0s", "1s"], ""])
+    press(bench, "[data-choice='0s']")
+    told = bench.value("(box => [drive.count, box.textContent, box.matches('.wrong')])(byId('lesson-after'))")
+    faults += differs("at a question", told, [2, "First answer the question.", True])
+    bench.value("enterStep(2)")
+    press(bench, "[data-choice='0s']")
+    press(bench, "#lesson-back")
+    faults += differs("after Back", bench.value("[lesson.at, drive.count, lesson.isDone]"), [1, 0, False])
+    bench.value("enterStep(3)")
+    bench.wait("location.hash.includes('step=3')")
+    bench.window.reload()
+    bench.value(READY)
+    bench.wait("lesson.told !== null")
+    faults += differs("after a reload", bench.value("[lesson.told.name, lesson.at, drive.words]"), ["store-buffering", 3, ["0s"]])
+    press(bench, "#lesson-leave")
+    press(bench, "[data-choice='0s']")
+    free = bench.value("[lesson.told, drive.words, byId('lesson').hidden, byId('task').hidden]")
+    faults += differs("free, where one was", free, [None, ["0s", "0s"], True, False])
+    press(bench, "#lesson-again")
+    faults += differs("in the lesson again", bench.value("[lesson.at, drive.words]"), [3, ["0s"]])
+    bench.value("beginLesson('false-sharing'); enterStep(lesson.told.steps.length - 1)")
+    press(bench, "#lesson-leave")
+    faults += differs("its run is kept", bench.value("[drive.isOn, drive.words.length, byId('left-lesson').hidden]"), [True, 7, False])
+    press(bench, "#to-first-test")
+    faults += differs("back to store buffering", bench.value("[testName(), drive.words, byId('left-lesson').hidden]"), ["SB", [], True])
+    return faults + safety(bench)
+
+
+FOCUS = "(({ id, dataset, textContent }) => id || dataset.choice || dataset.edges || textContent)(document.activeElement)"
+
+
+def focus_row(bench):
+    """In a lesson the focus is always at what goes on: at the question after a refused key, at the awaited choice after an answer, at Next after what a
+    step shows, and at a part's end on what was learned. Digits answer, and Enter leads to the answers. The last arrow of a cycle keeps the focus."""
+    bench.open_fresh()
+    press(bench, "#first-lesson")
+    bench.value("document.activeElement.click()")
+    faults = differs("at a question", bench.value(FOCUS), "lesson-said")
+    bench.key_choice("0s")
+    faults += differs("after a refused key", bench.value("[%s, drive.count]" % FOCUS), ["lesson-said", 0])
+    bench.value("document.activeElement.dispatchEvent(new KeyboardEvent('keydown', { key: 'Enter', bubbles: true }))")
+    faults += differs("after Enter", bench.value("document.activeElement.dataset.answer"), "Yes")
+    bench.press("2")
+    faults += differs("after the key 2", bench.value("[%s, lesson.answer]" % FOCUS), ["0s", "No"])
+    bench.value("enterStep(12)")
+    press(bench, "[data-show]")
+    bench.wait("!bench.task && document.querySelector('.states-sheet')")
+    faults += differs("after all outcomes", bench.value("[%s, document.querySelector('[data-show]').matches('.main')]" % FOCUS), ["lesson-next", False])
+    bench.value("enterStep(4)")
+    press(bench, "[data-answer='1']")
+    outlined = "[...document.querySelectorAll('[data-answer]')].map(each => getComputedStyle(each).outlineStyle)"
+    faults += differs("the right answer is outlined after a wrong one", bench.value(outlined), ["solid", "none"])
+    bench.value("enterStep(13)")
+    bench.wait("!bench.task && document.querySelector('.states-sheet')")
+    press(bench, "#lesson-next")
+    faults += differs("at a part's end", bench.value("[%s, drive.isOn]" % FOCUS), ["lesson-said", False])
+    faults += differs("Next names the part", bench.text("#lesson-next"), "Next: What does a core see of its own stores?")
+    places = [bench.value("enterStep(%d), [byId('lesson-place').textContent, byId('lesson-bar').value, byId('lesson-bar').max]" % at) for at in (14, 15)]
+    faults += differs("parts", places, [["Part 1 of 2, step 15 of 15", 15, 15], ["Part 2 of 2, step 1 of 10", 1, 10]])
+    bench.value("beginLesson('fences'); enterStep(12)")
+    press(bench, "[data-show]")
+    bench.wait("!bench.task && document.querySelector('.cycle')")
+    for _ in range(3):
+        press(bench, "[data-edges=next]")
+    faults += differs("at the last arrow", bench.value("[%s, sheet.cycle.shown]" % FOCUS), ["next", 4])
+    return faults + safety(bench)
+
+
+VIEW = "[lesson.at, lesson.isDone, drive.isOn, document.querySelectorAll('.states-sheet, .cycle').length, drive.histories.length]"
+
+
+def views_row(bench):
+    """Back to a step that had a view of its own shows that again, and before it the machine; so does an address that leads there."""
+    bench.open_fresh()
+    bench.value("beginLesson('store-buffering', 14)")
+    bench.wait("!bench.task && document.querySelector('.states-sheet')")
+    faults = []
+    for back in ([13, True, False, 1], [12, True, False, 1], [11, False, True, 0]):
+        press(bench, "#lesson-back")
+        bench.wait("!bench.task")
+        faults += differs("back to the table", bench.value(VIEW)[:4], back)
+    bench.value("beginLesson('fences', 14)")
+    bench.wait("!bench.task && document.querySelector('.cycle')")
+    press(bench, "#to-run")
+    press(bench, "#lesson-back")
+    bench.wait("!bench.task && document.querySelector('.cycle')")
+    faults += differs("the arrows, after the run was shown", bench.value(VIEW)[:4], [13, True, False, 1])
+    bench.value("beginLesson('false-sharing', 99)")
+    for words, back in (("1", True), ("1", True), ("2", True)):
+        faults += differs("four machines", bench.value("[settingOf('words').value, lesson.isDone, drive.histories.length]"), [words, back, 4])
+        press(bench, "#lesson-back")
+    return faults + differs("one machine", bench.value("[lesson.isDone, drive.histories.length]"), [False, 1]) + safety(bench)
