@@ -1,8 +1,10 @@
 -- Where the line `Order` is, as a walk over all bytes finds it.
-use Rattle.order_builder.proofs.Vocabulary.{◌≡◌, ℕ, zero, suc, ◌+◌, ◌-◌, ◌<◌, ◌≤◌, true, false, ◌||◌, eqb, ltb, List, [], ◌∷◌, length, take, take_all, drop, get_or}
-use Rattle.order_builder.proofs.Vocabulary.{Option, Some, None, refl, sym, ap, subst, ◌∙◌, ◌⊎◌, inl, inr, arith, nat_tests, eqb-true, ltb-false, drop-drop, drop_all}
+use Rattle.order_builder.proofs.Vocabulary.{◌≡◌, ℕ, zero, suc, ◌+◌, ◌-◌, ◌<◌, ◌≤◌, true, false, ◌||◌, eqb, ltb, List, [], ◌∷◌, length, take}
+use Rattle.order_builder.proofs.Vocabulary.{take_all, drop, get_or}
+use Rattle.order_builder.proofs.Vocabulary.{Option, Some, None, refl, sym, ap, subst, ◌∙◌, ◌⊎◌, inl, inr, arith, nat_tests, eqb-true}
+use Rattle.order_builder.proofs.Vocabulary.{ltb-false, drop-drop, drop_all}
 use Rattle.order_builder.proofs.Vocabulary.{length-drop, length-take, get_or-drop, count_by, count_by_more_yes, count_by_more_no, strip_carriage_return}
-use Rattle.order_builder.proofs.Vocabulary.{lines_of, is_line_feed, begins_line, order_start, IsOtherFirst, IsOrderLineAt}
+use Rattle.order_builder.proofs.Vocabulary.{lines_of, is_line_feed, starts_line, order_start, IsOtherFirst, IsOrderLineAt}
 use Rattle.order_builder.proofs.LineLemmas.{split_once-first, split_once-nowhere, lines_of-nil, lines_of-split_once, lines_of-alone}
 use Rattle.order_builder.proofs.LineLemmas.{other_first, start_here, start_later}
 use Rattle.order_builder.proofs.Choosing.{either_way}
@@ -13,13 +15,13 @@ use Rattle.memchr.specs.Find.{Nowhere, NoneBefore, Passes, is_byte}
 pub record IsPast (text : List ℕ) (at : ℕ) : Type 0 where
   pub from : ℕ
   pub within : from ≤ at
-  pub begins : begins_line text from ≡ true
+  pub begins : starts_line text from ≡ true
   pub same_line : (k : ℕ) → from ≤ k → k < at → eqb (get_or text k 0) 10 ≡ false
   pub other : from < at → IsOtherFirst (lines_of (drop from text))
   pub start : order_start (count_by is_line_feed (take at text)) (lines_of (drop from text)) ≡ order_start 0 (lines_of text)
 
 pub nothing_past : (text : List ℕ) → IsPast text 0
-unfolding begins_line
+unfolding starts_line
 nothing_past text = record {
   from = 0;
   within = omega arith;
@@ -30,15 +32,18 @@ nothing_past text = record {
 }
 
 at_or_before : (m n : ℕ) → m ≤ n → (m < n) ⊎ (m ≡ n)
-at_or_before m n le = elim (either_way (ltb m n)) [ inl before ↦ inl (ltb-true m n before) | inr past ↦ inr (let behind = ltb-false m n past in omega (arith, behind)) ]
+at_or_before m n le = elim (either_way (ltb m n)) [
+  | inl before ↦ inl (ltb-true m n before)
+  | inr past ↦ inr (let behind = ltb-false m n past in omega (arith, behind))
+]
 
 -- the line in which the place is, is another than `Order`
-other_so_far : (text : List ℕ) (at : ℕ) (past : IsPast text at) → (begins_line text at ≡ true → IsOtherFirst (lines_of (drop at text)))
+other_so_far : (text : List ℕ) (at : ℕ) (past : IsPast text at) → (starts_line text at ≡ true → IsOtherFirst (lines_of (drop at text)))
     → IsOtherFirst (lines_of (drop past.from text))
 other_so_far text at past other =
     elim (at_or_before past.from at past.within) [
       | inl before ↦ past.other before
-      | inr here ↦ subst (λ n. IsOtherFirst (lines_of (drop n text))) (sym here) (other (subst (λ n. begins_line text n ≡ true) here past.begins))
+      | inr here ↦ subst (λ n. IsOtherFirst (lines_of (drop n text))) (sym here) (other (subst (λ n. starts_line text n ≡ true) here past.begins))
     ]
 
 -- what comes after a line feed, where the line began at or before it
@@ -63,9 +68,9 @@ later n lines line after found are (others, (first, is, other)) start =
     start_later n lines after found (first, is ∙ ap (λ l. first ∷ l) same, other) start
 
 -- one byte further
-pub one_past : (text : List ℕ) (at : ℕ) → at < length text → IsPast text at → (begins_line text at ≡ true → IsOtherFirst (lines_of (drop at text)))
+pub one_past : (text : List ℕ) (at : ℕ) → at < length text → IsPast text at → (starts_line text at ≡ true → IsOtherFirst (lines_of (drop at text)))
     → IsPast text (at + 1)
-unfolding begins_line
+unfolding starts_line
 one_past text at lt past other =
     let first = other_so_far text at past other in
     elim (either_way (eqb (get_or text at 0) 10)) [
@@ -143,8 +148,8 @@ up_to_end text at within past nowhere =
     (λ k lt is. nowhere k (omega arith) (rw all lt) (rw (← rest_from text at, get_or-drop at text k 0, is) refl)))
 
 -- a line that begins here is the one from which `Order` is looked for
-from_here : (text : List ℕ) (at : ℕ) (past : IsPast text at) → begins_line text at ≡ true → past.from ≡ at
-unfolding begins_line
+from_here : (text : List ℕ) (at : ℕ) (past : IsPast text at) → starts_line text at ≡ true → past.from ≡ at
+unfolding starts_line
 from_here text at past begins =
     elim (at_or_before past.from at past.within) [
       | inl before ↦
@@ -157,7 +162,10 @@ from_here text at past begins =
 pub order_found : (text : List ℕ) (at : ℕ) (after : List (List ℕ)) → IsPast text at → IsOrderLineAt text at after
     → Some (count_by is_line_feed (take at text) + 1, after) ≡ order_start 0 (lines_of text)
 order_found text at after past (begins, first) =
-    let start = subst (λ n. order_start (count_by is_line_feed (take at text)) (lines_of (drop n text)) ≡ order_start 0 (lines_of text)) (from_here text at past begins) past.start in
+    let start =
+    subst (λ n.
+    order_start (count_by is_line_feed (take at text)) (lines_of (drop n text)) ≡ order_start 0 (lines_of text))
+    (from_here text at past begins) past.start in
     start_here _ _ after _ first start
 
 pub order_nowhere : (text : List ℕ) → IsPast text (length text) → None ≡ order_start 0 (lines_of text)

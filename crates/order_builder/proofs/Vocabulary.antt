@@ -13,7 +13,7 @@ pub use Rattle.std.proofs.lemmas.List.Elements.{All-weaker, All-cons, All-nil, A
 pub use Rattle.order_builder.specs.Reading.{entries_of_order, Gives}
 pub use Rattle.order_builder.specs.inner.Reading.{onto, ◌>>=◌, entry_at, numeral, halves_at, IsFirstOfLines, IsOtherFirst, IsOrderLineAt}
 unfoldable pub use Rattle.order_builder.specs.inner.Reading.{order_of, order_start, entries_in, entry_in, end_in, location_named}
-unfoldable pub use Rattle.order_builder.specs.inner.Reading.{split_once, begins_line, without_prefix, kind_of, place_in, access_in, action_in}
+unfoldable pub use Rattle.order_builder.specs.inner.Reading.{split_once, starts_line, without_prefix, kind_of, place_in, access_in, action_in}
 pub use Rattle.order_builder.specs.Lines.{lines_in, is_line_feed}
 unfoldable pub use Rattle.order_builder.specs.Lines.{lines_of}
 pub use Rattle.order_builder.specs.declared.fault.OrderFault.{OrderFault}

@@ -4,7 +4,7 @@ ghost use Rattle.std.specs.Prelude.{◌≡◌, ◌<◌, ◌∷◌, [], length, c
 ghost use Rattle.std.specs.Option.{option_map};
 ghost use Rattle.std.specs.Str.Lines.{strip_carriage_return};
 ghost use Rattle.order_builder.specs.Lines.{lines_of, is_line_feed};
-ghost use Rattle.order_builder.specs.inner.Reading.{split_once, begins_line, without_prefix};
+ghost use Rattle.order_builder.specs.inner.Reading.{split_once, starts_line, without_prefix};
 
 /// What comes before the first such byte, and what after it; `None` where there is no such byte.
 pub fn split_once(text: &[u8], byte: u8) -> Option<(&[u8], &[u8])>
@@ -28,10 +28,10 @@ pub fn without_prefix<'a>(text: &'a [u8], prefix: &[u8]) -> Option<&'a [u8]>
 }
 
 /// Whether a line of the text begins at this place.
-#[tactic(auto, unfolding(crate::specs::inner::Reading::begins_line))]
-pub fn begins_line(text: &[u8], at: usize) -> bool
+#[tactic(auto, unfolding(crate::specs::inner::Reading::starts_line))]
+pub fn starts_line(text: &[u8], at: usize) -> bool
     requires { at < length text.now }
-    ensures { result ≡ begins_line text.now at }
+    ensures { result ≡ starts_line text.now at }
 {
     at == 0 || text[at - 1] == b'\n'
 }

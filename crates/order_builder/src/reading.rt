@@ -11,11 +11,11 @@ ghost use Rattle.order_builder.specs.Spelling.{SpellsOrder, HasFault};
 ghost use Rattle.order_builder.specs.declared.fault.OrderFault.{OrderFault};
 ghost use Rattle.order_builder.specs.declared.fault.OrderFault.TheVariants.{NoMemory};
 ghost use Rattle.order_builder.specs.Reading.{entries_of_order, Gives};
-ghost use Rattle.order_builder.specs.inner.Reading.{entries_in, order_start, begins_line, IsOrderLineAt, IsOtherFirst};
+ghost use Rattle.order_builder.specs.inner.Reading.{entries_in, order_start, starts_line, IsOrderLineAt, IsOtherFirst};
 
 use crate::entries::{end_in, entry_in};
 use crate::fault::OrderFault;
-use crate::lines::{begins_line, line_feeds_in, next_line};
+use crate::lines::{line_feeds_in, next_line, starts_line};
 use crate::numbers::number_is;
 use memchr::memchr;
 use std::alloc::Global;
@@ -66,9 +66,9 @@ fn after_order_at(text: &[u8], at: usize) -> Option<&[u8]>
     requires { at < length text.now }
     ensures some { IfSome result (λ after. IsOrderLineAt text.now at (lines_of after.now)) }
     ensures shorter { IfSome result (λ after. at + length after.now < length text.now) }
-    ensures none { IfNone result (begins_line text.now at ≡ true → IsOtherFirst (lines_of (drop at text.now))) }
+    ensures none { IfNone result (starts_line text.now at ≡ true → IsOtherFirst (lines_of (drop at text.now))) }
 {
-    if !begins_line(text, at) {
+    if !starts_line(text, at) {
         return None;
     }
     match next_line(&text[at..]) {

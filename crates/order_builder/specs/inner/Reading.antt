@@ -1,5 +1,6 @@
 -- An order as it is read from the lines of a text, or the first fault in their order.
-use Rattle.std.specs.Prelude.{ℕ, Bool, true, false, ◌||◌, ◌≡◌, ◌+◌, ◌-◌, ◌^◌, ◌==◌, get_or, List, [], ◌∷◌, length, take, drop, Option, Some, None, Result, Ok, Err, codes, if◌then◌else◌}
+use Rattle.std.specs.Prelude.{ℕ, Bool, true, false, ◌||◌, ◌≡◌, ◌+◌, ◌-◌, ◌^◌, ◌==◌, get_or, List, [], ◌∷◌, length, take, drop, Option, Some}
+use Rattle.std.specs.Prelude.{None, Result, Ok, Err, codes, if◌then◌else◌}
 use Rattle.std.specs.List.{position}
 use Rattle.std.specs.Option.{option_map}
 use Rattle.std.specs.Str.{bytes_eq}
@@ -27,8 +28,8 @@ unfoldable pub split_once : ℕ → List ℕ → Option (List ℕ × List ℕ)
 split_once byte text = option_map (halves_at text) (position (λ b. b == byte) text)
 
 -- whether a line of the text begins at this place
-unfoldable pub begins_line : List ℕ → ℕ → Bool
-begins_line text at = (at == 0) || (get_or text (at - 1) 0 == 10)
+unfoldable pub starts_line : List ℕ → ℕ → Bool
+starts_line text at = (at == 0) || (get_or text (at - 1) 0 == 10)
 
 -- what comes after a prefix
 unfoldable pub without_prefix : List ℕ → List ℕ → Option (List ℕ)
@@ -126,7 +127,7 @@ IsOtherFirst lines = (after : List (List ℕ)) × IsFirstOfLines false after lin
 
 -- at this place a line begins that is `Order`, and these come after it
 abbrev pub IsOrderLineAt : List ℕ → ℕ → List (List ℕ) → Type 0
-IsOrderLineAt text at after = (begins_line text at ≡ true) × IsFirstOfLines true after (lines_of (drop at text))
+IsOrderLineAt text at after = (starts_line text at ≡ true) × IsFirstOfLines true after (lines_of (drop at text))
 
 -- the order that is read after the line `Order`
 abbrev pub order_from : Litmus → Option (ℕ × List (List ℕ)) → Result (List Entry) OrderFault

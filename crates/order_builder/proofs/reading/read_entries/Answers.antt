@@ -32,4 +32,6 @@ loop-line-preserved c = record {
 }
 
 pub returns : goal.returns
-returns c = ends_early c.args.test.now (count_by is_line_feed c.args.before.now + 1) c.loop-line.order.items c.loop-line.rest.now _ c.in_default.ensures.none c.loop-line.invariant.same
+returns c =
+    ends_early c.args.test.now (count_by is_line_feed c.args.before.now + 1) c.loop-line.order.items
+    c.loop-line.rest.now _ c.in_default.ensures.none c.loop-line.invariant.same

@@ -4,7 +4,9 @@ use Rattle.order_builder.proofs.reading.read_entries.Given as goal
 
 abbrev pub invariant-loop-line : goal.invariant-loop-line
 invariant-loop-line l = record {
-  same : with_front l.order.items (entries_in l.test (count_by is_line_feed l.before + 1) (length l.order.items) (lines_of l.rest)) ≡ entries_in l.test (count_by is_line_feed l.before + 1) 0 (lines_of l.text);
+  same : with_front l.order.items
+      (entries_in l.test (count_by is_line_feed l.before + 1) (length l.order.items) (lines_of l.rest))
+      ≡ entries_in l.test (count_by is_line_feed l.before + 1) 0 (lines_of l.text);
   within : length l.order.items + length l.rest ≤ length l.text;
 }
 

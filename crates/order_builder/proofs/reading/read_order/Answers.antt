@@ -7,7 +7,8 @@ returns-in-Some c =
     let small : length c.args.text.now < 2 ^ 64 = omega arith in
     let test = c.know_limits.ensures in
     let read : Gives entries_of_order c.read_entries.result (order_of c.args.test.now c.args.text.now) =
-    read_after c.args.test.now c.args.text.now c.in-Some.after.now (count_by is_line_feed c.in-Some.before.now + 1) c.read_entries.result c.in-Some.ensures.value c.read_entries.ensures in
+    read_after c.args.test.now c.args.text.now c.in-Some.after.now (count_by is_line_feed c.in-Some.before.now + 1)
+    c.read_entries.result c.in-Some.ensures.value c.read_entries.ensures in
     record {
       found = is_found c.args.test.now c.args.text.now c.read_entries.result small read;
       only = is_only c.args.test.now c.args.text.now c.read_entries.result test small read;
