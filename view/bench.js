@@ -103,7 +103,7 @@ function showAsked(command) {
   showTestLine(command);
   document.title = `${testName()} – Litmus tests under TSO`;
   showWordsLine(command);
-  putText(byId('enter-asks'), `Ctrl+Enter: ${BEGINS[askedNext()]}`);
+  putText(byId('enter-asks'), Object.hasOwn(BEGINS, command) ? `Ctrl+Enter: ${BEGINS[command]}` : '');
   forgetNotices(command);
   showLeft();
   showExercise();

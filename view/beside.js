@@ -8,14 +8,12 @@ const NO_OTHER = 'null'; // as the list of machines has it
 
 const besideName = beside => (beside === ABREAST ? ABREAST : machineName(beside));
 
-/** The machine of a name beside that of the settings, ABREAST, or null. */
 function besideNamed(name) {
   if (name === ABREAST) return ABREAST;
   const { options = {} } = readSettings('run'), others = otherMachines({ ...Tso.DEFAULTS, ...options }).slice(1);
   return others.find(machine => machineName(machine) === name) ?? null;
 }
 
-/** The machines beside one. */
 function machinesBeside(options) {
   if (drive.beside === null) return [];
   if (drive.beside !== ABREAST) return [drive.beside];
@@ -38,7 +36,6 @@ function drawBesideChoices(options) {
   field.value = wanted === undefined ? NO_OTHER : JSON.stringify(wanted);
 }
 
-/** Puts beside the machine what a text of the list stands for. */
 function putBeside(text) {
   putDrive({ beside: JSON.parse(text) });
   beginDrive(firstHistory(), drive, drive.count);
@@ -66,7 +63,6 @@ function asFirst({ steps }, count) {
   return count > 0 && steps !== first && toldOf(steps) === toldOf(first) ? `, as ${options.protocol.toUpperCase()} so far` : '';
 }
 
-/** What a machine did that the first didn't, or else the other way round. */
 const saidOtherwise = ({ sentences: own }, { sentences: first }) => own.filter(each => !first.includes(each)).join(' ') ||
   first.filter(each => !own.includes(each)).map(each => `Not here: ${each}`).join(' ');
 

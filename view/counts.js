@@ -21,8 +21,8 @@ function tellsCounts(tso) {
 /** How many of the runs ended, in words, and under which protocol. */
 function countedSentence({ ended, unfinished }, protocol) {
   if (ended === 0) return 'No run ended, so there is nothing to count. Give each seed more choices.';
-  const left = unfinished === 0 ? '' : ` ${unfinished} didn’t end and aren’t counted.`;
-  return `${ended === 1 ? 'One run' : `${ended} runs`} by chance, under ${protocol.toUpperCase()}, ended.${left} What goes to memory only when a test has ended isn’t counted.`;
+  const left = unfinished === 0 ? '' : ` ${unfinished} didn't end and aren't counted.`;
+  return `${ended === 1 ? 'One run' : `${ended} runs`} by chance, under ${protocol.toUpperCase()}, ended.${left} What goes to memory only when a test has ended isn't counted.`;
 }
 
 /** A number's sum over the runs, and the least and the greatest of one run. */

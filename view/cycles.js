@@ -177,12 +177,12 @@ function drawExecution(programs, edges, few, panelOf) {
     sheet.cycle.picture.classList.toggle('fits', fit.checked);
     return sheet.cycle.element;
   };
-  const isLarge = isTooLarge(drawEdges(programs, edges, '', true));
-  if (few.length === edges.length && isWhole && !isLarge) return draw(true);
-  const left = few.length < edges.length ? `Drawn are ${few.length} of ${edges.length} arrows, those at what is asked for.` : isWhole ? '' : 'Cores without an arrow are left out.';
+  const isMany = few.length < edges.length, isLarge = isTooLarge(drawEdges(programs, edges, '', isMany));
+  if (!isMany && isWhole && !isLarge) return draw(true);
+  const left = isMany ? `Drawn are ${few.length} of ${edges.length} arrows, those at what is asked for.` : isWhole ? '' : 'Cores without an arrow are left out.';
   const box = html('input', { type: 'checkbox' }), place = html('div', {}, draw(false));
   const said = html('span', {}, left), label = (input, text) => html('label', {}, input, text);
-  const all = left !== '' ? [said, label(box, ' Draw all')] : [], fits = isLarge ? [label(fit, ' Fit the screen')] : [];
+  const all = left === '' ? [] : isMany ? [said, label(box, ' Draw all')] : [said], fits = isLarge ? [label(fit, ' Fit the screen')] : [];
   const words = html('p', { class: 'buttons small' }, ...all, ...fits);
   words.addEventListener('change', ({ target }) => {
     const { shown } = sheet.cycle;
@@ -217,9 +217,9 @@ class CyclePanel {
     this.show(0);
   }
 
-  /** The first step: at 0 nothing is faint. */
+  /** The first step: at 0 nothing is faint, in a lecture no arrow is there. */
   get least() {
-    return this.last > 1 && !isLecture() && lesson.told === null ? 0 : 1;
+    return this.last > 1 && lesson.told === null ? 0 : 1;
   }
 
   /** How many steps there are. */
@@ -247,7 +247,7 @@ class CyclePanel {
   move(way) {
     const next = isLecture() && this.shown >= this.closed ? this.last : this.shown + 1; // there the cycle is what counts
     this.show({ first: 1, back: this.shown - 1, next, all: this.last }[way]);
-    if (this.shown > this.cycle.length) return;
+    if (this.shown === 0 || this.shown > this.cycle.length) return;
     if (this.element.matches('.tall')) return this.scrollTo(this.shown - 1);
     const { top, bottom } = this.picture.querySelector('[data-letters].now').getBoundingClientRect();
     if (this.least === 0 && (top < 0 || bottom > innerHeight)) scrollBy(0, this.picture.getBoundingClientRect().bottom - innerHeight + CLEAR);
@@ -273,7 +273,7 @@ class CyclePanel {
   /** What the step says, where the sentences aren't beside the picture, and for readers of screens. */
   say(edge) {
     const isEnd = this.end.textContent !== '' && (this.shown === this.closed || this.shown === this.last);
-    const said = edge === undefined ? [this.shown === 0 ? '“Next arrow” tells them one by one.' : 'All arrows that are drawn.'] : [`${arrowName(this.shown - 1)} `, chipOf(edge.relation, this.isNarrow), ` ${edgeSentence(edge)}`,
+    const said = edge === undefined ? [this.shown > 0 ? 'All arrows that are drawn.' : isLecture() ? 'The arrows come one by one.' : '“Next arrow” tells them one by one.'] : [`${arrowName(this.shown - 1)} `, chipOf(edge.relation, this.isNarrow), ` ${edgeSentence(edge)}`,
       html('span', { class: 'faint' }, ` ${meaningOf(edge.relation, this.cycle)}`)];
     this.said.replaceChildren(...said, ...(isEnd ? [' ', html('strong', {}, this.end.textContent)] : []));
   }
@@ -292,6 +292,7 @@ class CyclePanel {
       else item.removeAttribute('aria-current');
     });
     this.end.classList.toggle('later', shown > 0 && shown < this.closed);
+    this.element.classList.toggle('unbegun', shown === 0);
     this.element.classList.toggle('untold', shown < (this.closed || this.last));
     const { length } = this.cycle;
     this.count.textContent = shown === 0 ? `${length} arrows` : shown > length ? `All ${length} arrows` : `Arrow ${shown} of ${length}`;

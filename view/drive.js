@@ -40,9 +40,16 @@ function beginDrive(history, { test, given }, count) {
   byId('machines').classList.toggle('two', drive.histories.length === 2);
   byId('machines').classList.toggle('abreast', drive.histories.length > 2);
   byId('machines').classList.toggle('many', history.cores > FEW_CORES);
+  nameStage(drive.histories.length, history.cores);
   Object.assign(drawn, { picture: null, passes: null });
   drawBesideChoices(history.options);
   showDrive();
+}
+
+/** What the style has to know of the machines. It asks no `:has` of what changes at each step, since a browser then looks through all of it. */
+function nameStage(machines, cores) {
+  const isFew = cores <= FEW_CORES, names = { lone: machines === 1 && isFew, four: machines > 2 && isFew, pair: cores === 2, three: cores > 2, seven: cores > 6 };
+  for (const [name, is] of Object.entries(names)) byId('machines').parentElement.classList.toggle(name, is);
 }
 
 function putPanels(panels) {

@@ -10,8 +10,8 @@ function showDrive() {
   showPicture();
   const step = history.steps[count - 1];
   const before = step && history.machineAfter(count - 1);
-  const said = step ? `${step.choice}: ${stepSentences(step, before, history.programs, isPlain).join(' ')}` : count === 0 ? startSentence(history) : 'The first machine\'s test has ended.';
-  byId('sentence').textContent = lesson.told ? '' : ofFirst(history, step ? ', ' : ': ') + said;
+  const said = step ? `${step.choice}${ofFirst()}: ${stepSentences(step, before, history.programs, isPlain).join(' ')}` : count === 0 ? startSentence(history) : 'The first machine\'s test has ended.';
+  byId('sentence').textContent = lesson.told ? '' : said + (isPlain ? '' : sharedLine(history, count));
   byId('count').textContent = `${choicesSaid(count)} made`;
   showMoves();
   showBranches();
@@ -25,8 +25,11 @@ function showDrive() {
   keepInSight();
 }
 
-/** Where machines stand abreast: that what is said is said of the first. */
-const ofFirst = ({ options }, sign) => (drive.histories.length > 2 ? `${options.protocol.toUpperCase()}${sign}` : '');
+/** Of machines abreast, where they differ, those that do as the first. */
+function ofFirst() {
+  const { panels } = drawn, same = panels.filter(({ sentences }) => sentences.join() === panels[0].sentences.join());
+  return panels.length < 3 || same.length === panels.length ? '' : ` under ${listed(same.map(({ history }) => history.options.protocol.toUpperCase()))}`;
+}
 
 /** Scrolls to what the last choice changed. For that the browser has to lay the page out, so it comes after all changes. */
 function keepInSight() {
@@ -68,16 +71,22 @@ const frameMost = () => (isLecture() ? LECTURED.high : 0.68) / drawn.picture.zoo
 /** By how much the picture is larger than it is drawn, as it is in a lecture and in a large window. */
 const zoomOfPicture = () => Number(getComputedStyle(byId('frame')).zoom) || 1;
 
+/** How wide the card is inside, on which the picture lies. */
+function widthOfCard() {
+  const card = byId('frame').parentElement, { paddingLeft, paddingRight } = getComputedStyle(card);
+  return card.clientWidth - parseFloat(paddingLeft) - parseFloat(paddingRight);
+}
+
 /** In a lecture the picture is as large as its rows and its lanes have room. */
 function growPicture({ cores, programs }) {
-  const { least, most, high, lanes, lane } = LECTURED, rows = HEAD + mostRows(programs) * ROW + STRIP, { clientWidth } = byId('frame').parentElement;
-  const room = Math.min(most, high * innerHeight / rows, clientWidth / (GUTTER + 2 + SCROLLBAR + Math.max(lanes, cores * lane)));
+  const { least, most, high, lanes, lane } = LECTURED, rows = HEAD + mostRows(programs) * ROW + STRIP;
+  const room = Math.min(most, high * innerHeight / rows, widthOfCard() / (GUTTER + 2 + SCROLLBAR + Math.max(lanes, cores * lane)));
   byId('run').style.setProperty('--zoom', Math.max(least, room).toFixed(2));
 }
 
 function makePicture() {
   if (isLecture()) growPicture(firstHistory());
-  const room = byId('frame').parentElement.clientWidth / zoomOfPicture() - SCROLLBAR;
+  const room = widthOfCard() / zoomOfPicture() - SCROLLBAR;
   const picture = drawn.picture = Object.assign(new GrowingPicture(firstHistory(), room), { room, zoom: zoomOfPicture() });
   shown.layout = picture.layout;
   byId('frame').classList.toggle('whole', picture.layout.width <= room);
@@ -126,6 +135,8 @@ function showEnd(history) {
   Object.assign(shown, { run, line: line ?? '' });
   const verdict = run ? (isLecture() && endSentence(history, run)) || verdictSentence(run, history.proposition) : conditionSentence(history);
   putCondition(byId('verdict'), verdict);
+  if (run && !isLecture()) tellInWords(byId('verdict'), history, run);
+  byId('verdict').classList.toggle('yes', isLecture() && verdict.startsWith('Yes: '));
   showPasses(history);
   byId('at-end').hidden = run === null;
   byId('comparison').hidden = run === null;
@@ -134,6 +145,16 @@ function showEnd(history) {
   byId('left').replaceChildren(...finalTables(run, REGISTERS.filter(name => drawn.panels[0].panels.some(({ used }) => used.includes(name)))));
   if (byId('order-part').open) showOrder();
   compareNow();
+}
+
+/** Says the condition in words, with what is written as their meaning. */
+function tellInWords(element, { proposition }, { condition }) {
+  const wanted = condition && wantedWords(proposition);
+  if (!wanted) return;
+  const [said] = element.textContent.split('Condition: '), own = TASKS[`${testName()} ${proposition}`] ?? '';
+  MEANINGS.written = `Written ${condition.kind} (${proposition}).`;
+  const words = own.includes('both loads read 0') ? 'Both loads read 0' : wantedSentence(wanted);
+  element.replaceChildren(said, withMeaning({}, 'written', words), `: ${condition.holds}.`);
 }
 
 /** Lists what loads passed so far. */
@@ -153,7 +174,7 @@ function conditionSentence({ proposition }) {
 /** Whether a run ended as is asked, in words alone; null where the condition has none. */
 function endSentence({ proposition }, { condition }) {
   const wanted = condition && wantedWords(proposition), isSo = wanted && missedPlaces(firstHistory(), drive.count, wanted).length === 0;
-  return wanted && `${isSo ? 'It can be: this run ends' : 'This run doesn\'t end'} with ${wantedSentence(wanted)}.${isSo ? '' : ' It tells nothing about other runs.'}`;
+  return wanted && `${isSo ? 'Yes: this run ends' : 'This run doesn\'t end'} with ${wantedSentence(wanted)}.${isSo ? '' : ' It tells nothing about other runs.'}`;
 }
 
 const showOrder = () => byId('order').replaceChildren(...(shown.run ? [orderTable(shown.run)] : []));

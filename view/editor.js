@@ -112,11 +112,14 @@ function placeOfRefusal(line, hint = '') {
     : { field: found[1] === 'order' ? 'given' : 'test', line: Number(/closes the \( of line (\d+)/.exec(hint)?.[1] ?? found[2]) };
 }
 
+/** A cell's text as hints quote it: with a space for each tab. */
+const plainCell = text => text.trim().replaceAll('\t', ' ');
+
 /** The cells of a row of programs, each with its text and where that begins. */
 function cellsOf(line) {
   let from = 0;
   return line.replace(/;.*$/, '').split('|').map((text, core) => {
-    const cell = { text: text.trim(), from: from + text.length - text.trimStart().length, core };
+    const cell = { text: plainCell(text), from: from + text.length - text.trimStart().length, core };
     from += text.length + 1;
     return cell;
   });
@@ -179,18 +182,29 @@ const REPAIRS = [
   [/^no ; ends th(is|e) row/, () => [/\s*$/, ' ;']],
   [/^'[&|=]': in a condition/, () => [/&&?|\|\|?|==/g, ([first]) => SIGNS[first]]],
 ];
+const LISTING = /^(hint: line \d+: )?(instructions alone|this is an assembler)/;
 const MOST_REPAIRED = 256; // as many cells as a test has
+const MOST_SAID = 4; // kinds of changes
 
-/** A compiler's listing as a test: what follows each label is a core's. Null where it isn't plain. */
+/** A compiler's or an assembler's listing as a test: what follows each label is a core's. Null where it jumps, or isn't plain. */
 function listingAsTest(text) {
-  const cores = [[]], left = /^$|^\.(?!L\w*:)|^(ret|endbr64|nop|leave|push|pop)|^mov.*(bp\W.*sp|sp\W.*bp)/i;
-  for (const line of text.split('\n').map(each => each.replace(/(#|;|\/\/).*/, '').trim()).filter(each => !left.test(each))) {
-    if (/^[^\s.].*:$/.test(line)) cores.push([]);
+  const cores = [[]], left = /^$|^\.|^(ret|endbr64|nop|leave|push|pop)|^mov.*(bp\W.*sp|sp\W.*bp)/i;
+  if (/^\s*j\w+\s+\.L/im.test(text)) return null;
+  for (const line of text.split('\n').map(each => plainCell(each.replace(/(#|;|\/\/).*/, ''))).filter(each => !left.test(each))) {
+    if (/:$/.test(line)) cores.push([]);
     else if (cores.at(-1).push(line) && !/^[a-z]/i.test(line)) return null;
   }
   const programs = cores.filter(core => core.length > 0), most = Math.max(...programs.map(core => core.length));
+  const start = [...text.matchAll(/^(\w+):\s+\.(?:long|int|quad)\s+([1-9]\d*)\s*$/gm)].map(([, name, word]) => ` ${name}=${word};`).join('');
   const row = at => ` ${programs.map((core, number) => (at < 0 ? `P${number}` : core[at] ?? '')).join(' | ')} ;\n`;
-  return most > 0 ? { text: `X86 pasted\n{ }\n${Array.from({ length: most + 1 }, (_, at) => row(at - 1)).join('')}`, count: 1, isOther: true, said: `a test of ${programs.length} core${programs.length === 1 ? '' : 's'}` } : null;
+  return most > 0 ? { text: `X86 pasted\n{${start} }\n${Array.from({ length: most + 1 }, (_, at) => row(at - 1)).join('')}`, count: 1, isOther: true, said: `a test of ${programs.length} core${programs.length === 1 ? '' : 's'}` } : null;
+}
+
+/** A test of X86_64 as one of X86: registers have the names of 32 bits, and items no types. */
+function narrowed(test) {
+  const items = /\bu?int(32|64)_t\s+([\w:]+\s*;[ \t]*\n?|(?=[\w:]+\s*=))/g, names = /\br([a-d]x|[sd]i)\b/gi;
+  const text = test.replace('X86_64', 'X86').replace(items, '').replace(names, (all, rest) => `E${rest.toUpperCase()}`);
+  return { text, count: 1, isOther: true, said: 'X86_64 became X86, with registers of 32 bits' };
 }
 
 const PLAIN_REGISTERS = ['EAX', 'EBX', 'ECX', 'EDX', 'ESI', 'EDI'];
@@ -198,7 +212,7 @@ const PLAIN_REGISTERS = ['EAX', 'EBX', 'ECX', 'EDX', 'ESI', 'EDI'];
 /** A test in which a register as R8D is one that its core doesn't use, in the condition too; null where none is left. */
 function renamed(lines, at, name) {
   const [first, last] = [lines.findIndex(line => /^\s*P\d+\s*[|;]/.test(line)), lines.findLastIndex(line => /;\s*$/.test(line))];
-  const named = new RegExp(`\\b${name}\\b`, 'gi'), core = cellsOf(lines[at]).findIndex(({ text }) => text.search(named) >= 0), places = new RegExp(`\\b${core}:\\w+`, 'g');
+  const named = new RegExp(`\\b${name.replace(/^(r\d+)d?$/i, '$1d?')}\\b`, 'gi'), core = cellsOf(lines[at]).findIndex(({ text }) => text.search(named) >= 0), places = new RegExp(`\\b${core}:\\w+`, 'g');
   let changed = '';
   const write = become => lines.map((line, row) => (row > first && row <= last ? line.split('|').map((part, column) => (column === core ? become(part) : part)).join('|') : line.replace(places, become))).join('\n');
   write(part => { changed += part; return part; });
@@ -209,22 +223,26 @@ function renamed(lines, at, name) {
 /** A test with what its hint says in each such place of its line, how many these are, and what they became; else null. */
 function repaired(test, hint = '') {
   const [, number, said = ''] = /^hint: line (\d+): (.*)/.exec(hint) ?? [], at = number - (said.includes('cores in the line before') ? 2 : 1), lines = test.split('\n'), line = lines[at] ?? '';
-  if (said.startsWith('instructions alone')) return listingAsTest(test);
+  if (LISTING.test(said)) return listingAsTest(test);
+  if (/^X86_64 tests|X86 in place of X86_64/.test(said)) return narrowed(test);
   const [, foreign] = / is for (\w+): take/.exec(said) ?? [];
   if (foreign) return renamed(lines, at, foreign);
   const [, cell, other] = CELL.exec(said) ?? [], cells = cellsOf(line).filter(({ text }) => text === cell), [pattern, change] = REPAIRS.find(each => each[0].test(said)) ?? [];
-  const inCell = part => (part.trim() === cell ? part.replace(cell, () => other) : part), [from, to] = cells.length > 0 || !pattern ? [/[^|;]+/g, inCell] : change(pattern.exec(said));
+  const inCell = part => (plainCell(part) === cell ? part.replace(cell, () => other) : part), [from, to] = cells.length > 0 || !pattern ? [/[^|;]+/g, inCell] : change(pattern.exec(said));
   const count = cells.length || (pattern && line.match(from)?.length);
   if (!count) return null;
-  const [part] = cells.length > 0 ? [cell] : line.match(from), isOther = !part.toUpperCase().startsWith(other?.split(' ')[0]);
+  const parts = cells.length > 0 ? [cell] : [...new Set(line.match(from))], isOther = !parts[0].toUpperCase().startsWith(other?.split(' ')[0]);
+  const became = part => (part.trim() === '' ? '; was added' : `${part.replace(/ +/g, ' ')} became ${part.replace(from, cells.length > 0 ? () => other : to)}`);
   lines[at] = line.replace(from, to);
-  return { text: lines.join('\n'), count, isOther, said: `line ${at + 1}: ${part.trim() === '' ? '; was added' : `${part.replace(/ +/g, ' ')} became ${part.replace(from, cells.length > 0 ? () => other : to)}`}` };
+  return { text: lines.join('\n'), count, isOther, line: at + 1, said: parts.map(became).join(', ') };
 }
 
-/** What places became, those first that have another instruction now. */
+/** What places became, each kind once, those first that have another instruction now. */
 function changesSaid(found) {
-  const [one, two, three, ...more] = found.toSorted((one, other) => Boolean(other.isOther) - Boolean(one.isOther)).map(({ said }) => said);
-  return `${[one, two, three].filter(Boolean).join('; ')}${more.length > 0 ? `; and ${more.length} more` : ''}. Undo takes all back. `;
+  const kinds = new Map();
+  for (const { said, line } of found.toSorted((one, other) => Boolean(other.isOther) - Boolean(one.isOther))) kinds.set(said, [...(kinds.get(said) ?? []), ...(line ? [line] : [])]);
+  const all = [...kinds].map(([said, lines]) => (lines.length === 0 ? said : `line${lines.length > 1 ? 's' : ''} ${listed(lines)}: ${said}`)), more = all.splice(MOST_SAID).length;
+  return `${all.join('; ')}${more > 0 ? `; and ${more} more` : ''}. Undo takes all back. `;
 }
 
 /** A test whose programs have their columns aligned; as it is where a row isn't plain. */
@@ -239,6 +257,7 @@ function aligned(text) {
 function writeRepairs() {
   const field = byId('test'), { options } = readSettings('run');
   const changes = [];
+  notice.test = null; // what was said of it goes
   let { hint } = bench.answer, { value: text } = field;
   for (let found = repaired(text, hint); found !== null && changes.length < MOST_REPAIRED; found = repaired(text, hint)) {
     ({ text } = found);
@@ -265,7 +284,7 @@ function markRefusal({ text: line, hint }) {
   for (const id of ['test', 'choices', 'given']) byId(id).setAttribute('aria-invalid', String(place?.field === id));
   byId('remove-choices').hidden = !place?.word;
   byId('write-so').hidden = place?.field !== 'test' || repaired(byId('test').value, hint) === null;
-  byId('write-so').textContent = hint?.includes('instructions alone') ? 'Write it as a test' : 'Write it so';
+  byId('write-so').textContent = LISTING.test(hint) ? 'Write it as a test' : 'Write it so';
 }
 
 /** Removes choices that are refused, which shows the machine again. */

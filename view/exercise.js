@@ -11,7 +11,6 @@ const exercise = { test: null, asked: '', thought: null, question: null, judged:
 const isExercise = () => exercise.test !== null && exercise.test === byId('test').value && lesson.told === null;
 const isUnanswered = () => isExercise() && exercise.thought === null;
 
-/** What an address tells of an exercise: it is of the test there. */
 function putExercise(told) {
   const asked = told.get('exercise'), thought = told.get('thought'), test = asked === null ? null : told.get('test');
   const isSame = test === exercise.test && thought === exercise.thought;
@@ -19,7 +18,6 @@ function putExercise(told) {
   if (!isSame) exercise.judged = null;
 }
 
-/** What an address keeps of it. */
 const exerciseToKeep = () => (isExercise() ? [['exercise', exercise.asked], ...(exercise.thought === null ? [] : [['thought', exercise.thought]])] : []);
 
 /** Shows what is asked, with the two answers; and hides the ways to the answer until one is given. */
@@ -43,7 +41,7 @@ function placeAnswers(isOwn) {
   if (place.nextElementSibling !== answers) place.after(answers);
 }
 
-const thoughtSaid = () => (exercise.thought === 'can' ? 'it can be' : 'it can’t be');
+const thoughtSaid = () => (exercise.thought === 'can' ? 'it can be' : 'it can\'t be');
 
 function answerExercise(thought) {
   if (!isUnanswered()) return;
@@ -59,7 +57,7 @@ const isAskedTwice = () => isExercise() && exercise.asked === (exercise.question
 function judgeThought(can) {
   if (!isExercise() || isUnanswered() || quantifierOf(exercise.test) === 'forall') return [];
   const isRight = can === (exercise.thought === 'can');
-  exercise.judged = isRight ? `You said ${thoughtSaid()}, and so it is.` : `You said: ${thoughtSaid()}. ${can ? 'It can' : 'It can’t'}.`;
+  exercise.judged = isRight ? `You said ${thoughtSaid()}, and so it is.` : `You said: ${thoughtSaid()}. ${can ? 'It can' : 'It can\'t'}.`;
   return [html('strong', { class: isRight ? 'judged' : 'judged wrong' }, exercise.judged), ' '];
 }
 
@@ -81,13 +79,13 @@ function proposedQuestion(test) {
   return own?.includes('miss') && showsCaches(drivenMachines()) ? own.replace(/^[^.]*\. /, '') : questionOf(test);
 }
 
-/** Asks for the wording. */
 function beginExercise() {
   const form = byId('exercise-form');
   byId(byId('run').hidden ? 'way-back' : 'saves').append(form);
   form.hidden = false;
   byId('exercise-said').value = proposedQuestion(inputOf('sweep'));
   byId('exercise-said').focus();
+  byId('exercise-said').select();
 }
 
 /** A test without the lines that tell what is allowed, or was seen. */
@@ -102,14 +100,12 @@ function exerciseAt(address, asked) {
   return told.toString();
 }
 
-/** The page with this test alone. */
 function saveExercise() {
   const asked = byId('exercise-said').value.trim().slice(0, MOST_ASKED), address = exerciseAt(currentAddress(), asked), { lessons } = taught;
   const seen = `${asked === '' ? '' : ` It asks: “${asked}”`} It starts without choices, and hides the answers until students have answered.`;
   return saveWhole(fileName(`${testName()}-exercise`, '.html'), () => wholePage(address, lessons.length === 0 ? '' : JSON.stringify({ lessons })), seen);
 }
 
-/** The page with an exercise for each test of the list. */
 function saveExercises() {
   const names = new Map(taught.list.map(entry => [exerciseAt(entry.address), plainName(entry)])), list = [...names].map(([address, name]) => ({ name, address }));
   return saveWhole(`${list.length}-exercises.html`, () => wholePage(list[0].address, JSON.stringify({ lessons: taught.lessons, list })));

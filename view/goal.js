@@ -116,7 +116,7 @@ function afterTry(history, count, met, quantifier) {
 function taskWords(quantifier, proposition, isDone, can) {
   const task = `${CLAIMS[quantifier]}${taskSentence(testName(), proposition, quantifier)}`;
   if (isDone) return `✓ Task: ${task}`;
-  return isRefuted() ? `${task} It can’t be done: ${quantifier === 'forall' ? 'each' : 'no'} run ends so.` : `☐ ${taskTitle(can)} ${task}`;
+  return isRefuted() ? `${task} It can't be done: ${quantifier === 'forall' ? 'each' : 'no'} run ends so.` : `☐ ${taskTitle(can)} ${task}`;
 }
 
 const lectured = { key: null }; // of which test the question stands there
@@ -145,8 +145,9 @@ function showTask(history, count, run) {
   byId('task').classList.toggle('met', isDone);
   byId('task').classList.toggle('asked', met !== true && possible.isAsked && !isUnanswered()); // so that its title doesn't change before one's eyes
   putText(byId('task-said'), isAsked ? '' : taskWords(quantifier, proposition, isDone, met ? true : can));
-  const offers = met === false && can !== true && !isUnanswered() && document.querySelector('#commands [value=why]') !== null;
+  const offers = (isDone || (met === false && can !== true)) && !isUnanswered() && document.querySelector('#commands [value=why]') !== null;
   putText(byId('task-after'), after);
   byId('task-why').hidden = !offers;
-  putText(byId('task-why'), offers ? 'Why can or can\'t it be?' : '');
+  putText(byId('task-why'), !offers ? '' : isDone ? 'Why can it be?' : 'Why can or can\'t it be?');
+  byId('task-why').classList.toggle('quiet', isDone);
 }

@@ -17,7 +17,7 @@ const LAYERS = ['grounds', 'waits', 'arrows', 'entries'];
 class WaitingBar {
   constructor(layout, store) {
     const { top, pitch } = layout, x = layout.trackOf(store), wide = Math.min(7, pitch * 0.7);
-    const head = pitch === TRACK.most ? 13 : 2;
+    const head = pitch === TRACK.most ? 16 : 2;
     const place = head > 2 ? [nameOverBar(layout, store, top(store.since))] : [];
     this.top = top(store.since) + head;
     this.bar = svg('rect', { class: 'certain', x: x - wide / 2, y: this.top, width: wide });
@@ -44,9 +44,8 @@ function mostRows(programs) {
 
 /** What the strip says of a core: the stores that wait, the oldest first. */
 function drawStores(layout, core, text) {
-  const { left, lane, tracks, pitch } = layout, from = left(core) + INSET + tracks * pitch + 4;
-  const x = (from + left(core) + lane) / 2, room = left(core) + lane - from - 4;
-  return svg('g', { class: 'not-yet' }, fittingText({ class: 'faint', x, y: 18 }, 12, NOT_YET, room), fittingText({ x, y: 36 }, 14, text, room));
+  const { left, lane, inner } = layout, room = lane - inner - 8, place = { x: left(core) + inner + 4, 'text-anchor': 'start' };
+  return svg('g', { class: 'not-yet' }, fittingText({ class: 'faint', ...place, y: 13 }, 12, NOT_YET, room), fittingText({ ...place, y: 33 }, 14, text, room));
 }
 
 /** The load part of a locked instruction whose store part is to come, in the strip. */
@@ -193,7 +192,7 @@ class GrowingPicture {
     this.history = history;
     const { rows, waiting, half } = this.history.momentAfter(count), before = this.history.momentAfter(count - 1 < 0 ? 0 : count - 1).rows;
     growRows(this.rows, this.history.order, rows, entry => this.add(entry), row => this.take(row));
-    this.size(rows, before);
+    this.size(rows, before, history.hasEnded(count));
     this.showBars(waiting.flat());
     this.stores.forEach((part, core) => part.show(waiting[core].map(store => `${store.location}=${store.value}`).join(' ')));
     if (half !== this.halfShown) this.half.replaceChildren(...(half ? [drawHalf(this.layout, half)] : []));
@@ -218,10 +217,10 @@ class GrowingPicture {
     this.waiting.append(bar.element);
   }
 
-  /** Shows as much of the picture as there are rows, and marks those of the last step. */
-  size(rows, before) {
+  /** Shows as much of the picture as there are rows, and marks those of the last step. At the end nothing waits under them. */
+  size(rows, before, hasEnded) {
     const { layout } = this;
-    this.bottom = layout.top(rows) + STRIP;
+    this.bottom = layout.top(rows) + (hasEnded ? 4 : STRIP);
     this.extent.style.height = `${this.bottom - HEAD}px`;
     setAll(this.element, { 'aria-label': `Memory order of the run so far: ${rows} entries. The store buffers and the last step stand above in words.` });
     setAll(this.band, { y: layout.top(before), height: (rows - before) * ROW, visibility: rows > before ? 'visible' : 'hidden' });

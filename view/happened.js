@@ -17,6 +17,8 @@ const ACCESSES = {
   miss: core => `A miss: the line came into P${core}'s cache.`,
 };
 
+const lineSaid = text => text.replaceAll('+', ', ');
+
 const isDrain = choice => choice.endsWith('d');
 const coreOfChoice = choice => Number.parseInt(choice, 10);
 
@@ -36,7 +38,7 @@ function supplyOf({ supplied, choice, entries, after }) {
 /** Where a store is that has left its buffer, in words: a cache may keep the word from memory itself. */
 function seenWords({ after }, core, location, isPlain) {
   const isKept = !isPlain && after.seen[location] !== after.memory[location];
-  return isKept ? `each core sees it from now on. P${core}'s cache has the word, and memory itself still has the old one.` : 'memory has seen it.';
+  return isKept ? `each core sees it from now on. P${core}'s cache has the word, memory still the old one.` : 'memory has seen it.';
 }
 
 /** What a compare and exchange read, compared and wrote, in one sentence; `eax` is what EAX was. */
@@ -106,9 +108,9 @@ function stepSentences(step, before, programs, isPlain = false) {
   const sentences = [said[step.outcome]()];
   if (isPlain) return sentences;
   if (step.access) sentences.push(ACCESSES[step.access](core));
-  if (step.transaction) sentences.push(`${step.transaction} went on the bus.`);
+  if (step.transaction) sentences.push(`${lineSaid(step.transaction)} went on the bus.`);
   if (step.flush) sentences.push(`${step.flush} sent its copy to memory.`);
-  if (step.write_back) sentences.push(`The line ${step.write_back} was written back to memory.`);
+  if (step.write_back) sentences.push(`The line ${lineSaid(step.write_back)} was written back to memory.`);
   return [...sentences, ...copySentences(step)];
 }
 
@@ -117,7 +119,15 @@ function copySentences(step) {
   const others = stateChanges(step).filter(({ core }) => core !== coreOfChoice(step.choice)), taken = others.filter(({ before, after }) => before !== 'I' && after === 'I');
   const kept = others.filter(({ before, after }) => before === 'M' && after === 'O').map(({ core }) => `P${core} keeps the line as its owner; memory keeps the old word.`);
   if (taken.length === 0) return kept;
-  return [`${listed(taken.map(({ core }) => `P${core}'s`))} ${taken.length === 1 ? 'copy' : 'copies'} of ${taken[0].line} became invalid.`];
+  return [`${listed(taken.map(({ core }) => `P${core}'s`))} ${taken.length === 1 ? 'copy' : 'copies'} of ${lineSaid(taken[0].line)} became invalid.`];
+}
+
+/** At the end of a run whose cores took a line from each other for words of their own: how many accesses missed. */
+function sharedLine({ steps }, count) {
+  const made = count < steps.length ? [] : steps.filter(({ access, entries }) => access && entries.length > 0), sizeOf = part => new Set(made.map(part)).size, wordOf = ({ entries }) => entryOf(entries[0]).location;
+  const missed = made.filter(({ access }) => access === 'miss'), taken = missed.filter(step => stateChanges(step).some(({ core }) => core !== coreOfChoice(step.choice)));
+  const words = taken.length > 0 && isAtEnd(drive) && sizeOf(wordOf) === sizeOf(step => coreOfChoice(step.choice) + wordOf(step)) ? stateChanges(taken[0])[0].line.split('+') : [];
+  return words.length > 1 ? ` ${missed.length} of ${made.length} accesses missed: ${listed(words)} share a line, which ${taken.length} of them took from the other core.` : '';
 }
 
 /** The lines whose state a step changed, as `P1.x S→I`, for the panels and for reading. */

@@ -13,6 +13,7 @@ const IN_WORDS_OF_THE_PAGE = [
   ['the proposition', 'the condition'],
   ['lower --depth', 'lower --depth (then it is less than TSO)'],
   ['the tool import', 'the program tools/import of a checkout'],
+  [/: an input has only one, so.*/, ': one test at a time'],
   [' after ====: ', ' of it: '],
   [/(\d+) stalled: /, '$1 did nothing: '],
   [/(\d[sd]) \w+ \((\dd) first\)/g, '$1 (it waits for $2)'],
@@ -21,18 +22,18 @@ const IN_WORDS_OF_THE_PAGE = [
 
 /** Why a line is refused, by the program's name for it. */
 const FAULTS = {
-  NoHeader: 'the first line has to be X86, a space, and a name', Unclosed: 'a comment, the initial state or a row doesn’t end',
-  BadToken: 'something here can’t be read',
-  BadInit: 'this doesn’t fit into the initial state', BadHeaderRow: 'the row of cores isn’t written as P0 | P1 ;',
-  WrongCells: 'this row doesn’t have one instruction for each core',
-  BadInstruction: 'this instruction can’t be read', BadNumber: 'a number is over 4294967295', TwiceInit: 'something gets its value twice',
+  NoHeader: 'the first line has to be X86, a space, and a name', Unclosed: 'a comment, the initial state or a row doesn\'t end',
+  BadToken: 'something here can\'t be read',
+  BadInit: 'this doesn\'t fit into the initial state', BadHeaderRow: 'the row of cores isn\'t written as P0 | P1 ;',
+  WrongCells: 'this row doesn\'t have one instruction for each core',
+  BadInstruction: 'this instruction can\'t be read', BadNumber: 'a number is over 4294967295', TwiceInit: 'something gets its value twice',
   NoSuchCore: 'there is no such core',
-  TooLarge: 'something is over its limit', BadCondition: 'this doesn’t fit into the condition', Trailing: 'something comes after the end of the test',
+  TooLarge: 'something is over its limit', BadCondition: 'this doesn\'t fit into the condition', Trailing: 'something comes after the end of the test',
 };
 
 /** Why a word of the choices is refused, by the same. */
 const CHOICE_FAULTS = {
-  NoSuchCore: word => `there is no core ${parseInt(word)}`, BadWord: () => 'this is no choice', TooMany: () => 'more choices than this aren’t taken',
+  NoSuchCore: word => `there is no core ${parseInt(word)}`, BadWord: () => 'this is no choice', TooMany: () => 'more choices than this aren\'t taken',
 };
 
 /** What was asked last for a notice: the test, and what the hint said. */

@@ -4,7 +4,6 @@
 
 const isLecture = () => document.documentElement.classList.contains('lecture');
 
-/** Says on a button by which the mode begins or ends which of the two it does. */
 function nameLecture(button) {
   setAll(button, { 'aria-pressed': String(isLecture()) });
   button.textContent = isLecture() ? 'End the lecture' : taught.list.length > 0 ? 'Start the lecture' : 'For a lecture';
@@ -20,7 +19,7 @@ function putLecture(isOn) {
   showTestLine(currentCommand());
   if (shown.run || drive.isOn) redraw();
   if (drive.isOn) showDrive();
-  sheet.cycle?.show(sheet.cycle.shown); // in a lecture it begins with its first arrow
+  sheet.cycle?.show(isOn ? 0 : sheet.cycle.shown); // a lecture begins without arrows
   if (sheet.cycle && !drive.isOn) showQuestion(sheet.test);
   noteVisit();
   keepList();
@@ -85,17 +84,15 @@ function onward() {
   return next && [saidOfNext(next), () => openListed(at)];
 }
 
-/** What PageUp does: a step back, or what was before. */
 function backward() {
   const cycle = drawnCycle();
-  if (cycle?.shown > 1) return cycle.move('back');
+  if (cycle?.shown > cycle?.least) return cycle.move('back');
   if (lesson.told !== null) return clickLesson(false);
   if (drive.isOn && drive.count > 0) return moveDriven('back');
   if (scrollY > 0 && !drive.isOn) return scrollBy(0, -SCROLLED * innerHeight);
   return drive.isOn || isOfEntry() ? openListed(placeBefore(), true) : backToRun();
 }
 
-/** The next entry by its test, or by what it shows of the same test: so no name tells an answer. */
 function saidOfNext({ name }) {
   const now = toGoThrough()[placeNow()], [test, kind] = name.split(': ');
   return now && kind && plainName(now) === test ? kind : `next test: ${test}`;

@@ -18,10 +18,16 @@ const stepNow = () => lesson.told.steps[lesson.at];
 
 /** The step at which a step's part begins: the last one up to it that has a test of its own, or the first. */
 const beginOf = (steps, at) => Math.max(0, steps.findLastIndex((step, each) => each <= at && step.test !== undefined));
-/** The place of a step, counted in its part. */
+/** Whether nothing is shown of a step alone: it is made in the place of Next, and goes on to a question. */
+function isPassedBy(steps, at) {
+  const { do: word, look, test } = steps[at], next = steps[at + 1];
+  return word && !look && !test && at > 0 && !steps[at - 1].show && next?.ask && !next.test;
+}
+/** The place of a step in its part, counted as shown. */
 function showPlace({ steps }, at) {
   const begins = [0, ...steps.flatMap(({ test }, each) => (test !== undefined && each > 0 ? [each] : [])), steps.length];
-  const part = begins.findLastIndex(each => each <= at), value = at - begins[part] + 1, max = begins[part + 1] - begins[part];
+  const part = begins.findLastIndex(each => each <= at), shownTo = end => steps.slice(begins[part], end).filter((_, each) => !isPassedBy(steps, begins[part] + each)).length;
+  const value = shownTo(at + 1), max = shownTo(begins[part + 1]);
   putText(byId('lesson-place'), `${begins.length > 2 ? `Part ${part + 1} of ${begins.length - 1}, s` : 'S'}tep ${value} of ${max}`);
   setAll(byId('lesson-bar'), { value, max });
 }
@@ -36,6 +42,8 @@ function wantedNow() {
   const { told, at, isDone, isStrayed, views } = lesson, { do: word, test } = told?.steps[at + isDone] ?? {};
   return isStrayed || (isDone && (test !== undefined || views !== '')) ? undefined : word;
 }
+/** The title of the part that one is in. */
+const partTitled = () => lesson.told.steps[beginOf(lesson.told.steps, lesson.at)].title ?? lesson.told.title;
 /** Whether a part ends here, with what was learned. */
 function isSum() {
   const { told: { steps }, at, isDone } = lesson, next = steps[at + 1];
@@ -62,7 +70,7 @@ function testOf(told, at) {
 /** What a step's button asks the proved code. */
 const LESSON_SHOWS = {
   outcomes: { says: 'Find all outcomes', act: () => findOutcomes() },
-  why: { says: 'Why can or can’t it be?', act: () => askWhy() },
+  why: { says: 'Why can or can\'t it be?', act: () => askWhy() },
   abreast: { says: 'All four protocols', act: () => putBeside(JSON.stringify(ABREAST)) },
   apart: { says: 'One word in a line', act: () => { settingOf('words').value = 1; keepPosition(answerNow); } },
 };
@@ -132,9 +140,9 @@ let leftLesson = null;
 
 /** Leaves the lesson: its run stays, with its task and the ways back. */
 function leaveLesson() {
-  const { told: { name, title }, at } = lesson;
+  const { told: { name, steps }, at, isDone } = lesson, title = partTitled(), next = isDone && at === steps.length - 1 ? nextLesson() : undefined;
   endLesson();
-  leftLesson = { name, title, at, test: byId('test').value };
+  leftLesson = { name: next?.name ?? name, title, at: next ? 0 : at, on: next?.title.split(':')[0], test: byId('test').value };
   showLeft();
   byId('left-lesson').scrollIntoView({ block: 'nearest' });
   byId('lesson-again').focus({ preventScroll: true });
@@ -157,6 +165,7 @@ function showLeft() {
   const isLeft = leftLesson?.test === byId('test').value, isRefused = byId('test').matches('[aria-invalid=true]');
   byId('left-lesson').hidden = lesson.told !== null || !(isLeft || isRefused);
   byId('lesson-again').hidden = !isLeft;
+  if (isLeft) putText(byId('lesson-again'), leftLesson.on ? `Next lesson: ${leftLesson.on}` : 'Go on with the lesson');
   const goesOn = drive.isOn && drive.count > 0 ? ', and your run goes on' : '';
   putText(byId('left-said'), isLeft ? `This is the test of the lesson “${leftLesson.title}”${goesOn}.` : 'This test has an error.');
   byId('to-first-test').hidden = byId('test').value === partsOf(EXAMPLES[FIRST_TEXT]).test;
@@ -179,11 +188,12 @@ function sayInLesson(refused) {
 function lessonDid(word) {
   if (lesson.told === null) return;
   const { told: { steps }, at, isDone, isStrayed } = lesson, { do: wanted, then, look } = steps[at], next = steps[at + 1];
-  const isOther = isStrayed || isDone || wanted !== word;
+  const isOther = isStrayed || isDone || wanted !== word, wasNext = document.activeElement === byId('lesson-next');
   if (!isOther && look === undefined && next?.ask !== undefined && next.test === undefined) enterStep(at + 1, { before: then });
   else putLesson(isOther ? { isStrayed: true, refused: '' } : { isDone: true, refused: '', before: '' });
   drawLesson();
   if (!isOther) focusStep();
+  else if (wasNext) byId('lesson-back').focus({ preventScroll: true });
   lookAtPicture();
 }
 
@@ -226,11 +236,15 @@ function showSentences() {
   byId('lesson-after').className = `after ${refused === '' ? judged : 'wrong'}`;
 }
 
+/** The key of an answer: the answer itself, where all are digits. */
+const keyOf = (answers, at) => (answers.every(answer => /^\d$/.test(answer)) ? answers[at] : String(at + 1));
+
 function lessonButtons() {
   const { answers = [], right, show } = stepNow(), { answer: given, isDone } = lesson, button = (attributes, ...parts) => html('button', { type: 'button', ...attributes }, ...parts);
   const stateOf = answer => (given === null ? {} : { disabled: '', class: answer === right ? 'right' : '' });
   return [
-    ...answers.map((answer, at) => button({ 'data-answer': answer, 'aria-keyshortcuts': at + 1, 'aria-pressed': answer === given, ...stateOf(answer) }, html('kbd', { 'aria-hidden': 'true' }, at + 1), answer)),
+    ...answers.map((answer, at) => button({ 'data-answer': answer, 'aria-keyshortcuts': keyOf(answers, at), 'aria-pressed': answer === given, ...stateOf(answer) },
+      ...(keyOf(answers, at) === answer ? [html('kbd', { class: 'digit' }, answer)] : [html('kbd', { 'aria-hidden': 'true' }, at + 1), answer]))),
     ...(show === undefined ? [] : [button({ 'data-show': show, class: isDone ? '' : 'main' }, LESSON_SHOWS[show].says)]),
   ];
 }
@@ -239,8 +253,16 @@ function inC(instruction, core) {
   const [, to, from] = /^MOV (\S+),(\S+)$/.exec(instruction) ?? [], word = text => text.replace(/[[\]$]/g, '').replace(/^E.X$/, `r${core}`);
   return to ? `${word(to)} = ${word(from)};` : instruction === 'MFENCE' ? 'fence;' : '';
 }
-/** Whether programs stand in C beside: in a lesson, where EAX is enough. */
-const isToldInC = ({ programs }) => lesson.told !== null && programs.flat().every(text => inC(text, 0) !== '' && !/E[^A]X/.test(text));
+const withoutSpace = test => test.replace(/^.*\n|\s/g, '');
+const lessonTests = () => lessonsHere().flatMap(({ text, test, steps }) =>
+  [test ?? partsOf(LIBRARY.find(each => each.file === text).text).test, ...steps.flatMap(step => step.test ?? [])]).map(withoutSpace);
+const inCAt = { test: null, isSo: false }; // the test that was asked about last
+/** Whether programs stand in C beside: in a lesson and at its tests, where EAX is enough. */
+function isToldInC({ programs }) {
+  const test = byId('test').value;
+  if (inCAt.test !== test) Object.assign(inCAt, { test, isSo: lessonTests().includes(withoutSpace(test)) });
+  return (lesson.told !== null || inCAt.isSo) && programs.flat().every(text => inC(text, 0) !== '' && !/E[^A]X/.test(text));
+}
 
 function markWanted() {
   const wanted = wantedNow();
@@ -250,9 +272,9 @@ function markWanted() {
 function showNext() {
   const { told: { steps }, at } = lesson, isLast = at === steps.length - 1, next = nextLesson(), part = steps[at + 1]?.title;
   byId('lesson-next').textContent = part ? `Next: ${part}` : !isLast ? 'Next' : next ? `Next lesson: ${next.title.split(':')[0]}` : 'End of the lesson';
-  byId('lesson-next').hidden = !lesson.isDone || wantedNow() !== undefined;
+  byId('lesson-next').hidden = !lesson.isDone || lesson.isStrayed || wantedNow() !== undefined;
   byId('lesson-back').disabled = at === 0 && !lesson.isStrayed;
-  byId('lesson-back').textContent = lesson.isStrayed ? 'Back to the lesson’s place' : 'Back';
+  byId('lesson-back').textContent = lesson.isStrayed ? 'Back to the lesson\'s place' : 'Back';
   putText(byId('lesson-also'), stepNow().also?.says ?? '');
 }
 
@@ -272,8 +294,9 @@ function drawLesson() {
   byId('lesson').hidden = !isOn;
   showLeft();
   markWanted();
+  markLessons();
   if (!isOn) return;
-  putText(byId('lesson-title'), lesson.told.steps[beginOf(lesson.told.steps, lesson.at)].title ?? lesson.told.title);
+  putText(byId('lesson-title'), partTitled());
   showPlace(lesson.told, at);
   showSentences();
   byId('lesson-answers').replaceChildren(...lessonButtons());
@@ -307,18 +330,31 @@ function focusStep() {
   (waited ?? (lesson.isDone ? null : document.querySelector('#lesson-answers [data-show]')) ?? byId('lesson-next')).focus({ preventScroll: true });
 }
 
-/** What a key does at a question: a digit answers, and Enter leads to the answers. Whether it did anything. */
+/** What a key does at a question: digits answer, arrows lead to the answers. Whether it did anything. */
 function answerByKey(key) {
-  const answer = stepNow().answers[key - 1], isEnter = key === 'Enter' && document.activeElement === byId('lesson-said');
+  const { answers } = stepNow(), answer = answers.find((_, at) => keyOf(answers, at) === key), way = { ArrowRight: 1, ArrowLeft: -1 }[key];
+  const buttons = [...byId('lesson-answers').children], at = buttons.indexOf(document.activeElement);
   if (answer !== undefined) answerLesson(answer);
-  else if (isEnter) byId('lesson-answers').firstElementChild.focus();
-  return answer !== undefined || isEnter;
+  else if (way) buttons[Math.min(Math.max(0, at + way), buttons.length - 1)].focus();
+  return answer !== undefined || way !== undefined;
 }
 
 function showLessons() {
   byId('lessons-part').open = true;
   byId('lessons-part').scrollIntoView({ block: 'nearest' });
   (byId('lessons').children[1] ?? byId('lessons')).querySelector('button').focus({ preventScroll: true });
+}
+
+const doneParts = new Set(); // each by its lesson and first step
+
+/** Ticks the parts that were done, and marks the one that one is in. */
+function markLessons() {
+  const { told, at } = lesson, now = told && `${told.name} ${beginOf(told.steps, at)}`;
+  if (told && isSum()) doneParts.add(now);
+  for (const { dataset: { lesson: of, step }, nextSibling } of byId('lessons').querySelectorAll('button')) {
+    const part = `${of} ${step}`;
+    putText(nextSibling, (doneParts.has(part) ? ' ✓ done' : '') + (part === now ? ' ● here' : ''));
+  }
 }
 
 /** The buttons by which lessons and their parts begin. */
@@ -328,7 +364,7 @@ function drawLessons() {
   byId('first-lesson').textContent = title;
   byId('more-lessons').hidden = others === 0;
   putText(byId('more-lessons'), `${others} more, next: ${second?.title.split(':')[0]}`);
-  const link = (of, at, text, ...parts) => html('li', {}, html('button', { type: 'button', 'data-lesson': of, 'data-step': at, class: 'quiet' }, text), ...parts);
+  const link = (of, at, text, ...parts) => html('li', {}, html('button', { type: 'button', 'data-lesson': of, 'data-step': at, class: 'quiet' }, text), html('span', {}), ...parts);
   byId('lessons').replaceChildren(...lessons.map(each => {
     const parts = each.steps.flatMap(({ title: part }, at) => (part === undefined ? [] : [link(each.name, at, part)]));
     return link(each.name, 0, each.title, ...(parts.length > 0 ? [html('ul', {}, ...parts)] : []));

@@ -111,7 +111,7 @@ function showOutcomes(answer, beside, test) {
   showAnswer(answer);
   foldReport(answer);
   const fine = sequential ? [html('span', { class: 'fine' }, ` ${besideSentence(outcomes, sequential)}`)] : [];
-  const said = html('p', { role: 'status' }, ...judgedOutcomes(outcomes, test), html('strong', {}, observationSentence(outcomes, test)), ...fine);
+  const said = html('p', { role: 'status' }, ...judgedOutcomes(outcomes, test), verdictOf(observationSentence(outcomes, test)), ...fine);
   const sheetOfAll = statesSheet(outcomes, sequential, truthsOf(outcomes, test));
   byId('states').replaceChildren(answerTitle('All outcomes'), said, ...sheetOfAll, ...outcomesInTerms(outcomes, sequential));
 }
@@ -131,6 +131,6 @@ function showMet(answer, depth, isStopped = false) {
   showAnswer(isStopped ? { ...answer, hint: '' } : answer); // no limit was met
   foldReport(answer);
   const truths = met.states.every(({ holds }) => typeof holds === 'boolean') ? met.states.map(({ holds }) => holds) : null;
-  const said = html('p', { role: 'status' }, metSentence(met, isStopped));
+  const said = html('p', { role: 'status', class: 'is-open' }, metSentence(met, isStopped));
   byId('states').replaceChildren(answerTitle('Some outcomes'), said, waysOn('outcomes', { isStopped }), ...statesSheet({ ...met, depth }, null, truths));
 }

@@ -58,12 +58,14 @@ function stateCell(state, change) {
   return change ? html('td', { class: 'changed' }, `${change.before}→`, badge) : html('td', {}, badge);
 }
 
+const lineWords = (line, words) => (words.length > 1 ? line.split('+').map((name, at) => `${name}=${words[at]}`) : words).join(' ');
+
 /** The rows of a cache: each line of each set, then those that a step took away, and one that is awaited. */
 function cacheRows(sets, changes, awaited, supply) {
   const changeOf = line => changes.find(change => change.line === line);
   const rowOf = (set, line, state, words, kind = '') => html('tr', { class: kind },
     ...(sets.length > 1 ? [html('td', { class: 'faint' }, set === '' ? '' : `set ${set}`)] : []),
-    html('th', { scope: 'row' }, line), stateCell(state, changeOf(line)), html('td', sourced({ class: 'words' }, suppliesLine(supply, line)), words.join(' ')));
+    html('th', { scope: 'row' }, lineSaid(line)), stateCell(state, changeOf(line)), html('td', sourced({ class: 'words' }, suppliesLine(supply, line)), lineWords(line, words)));
   const there = sets.flatMap((lines, set) => lines.map(({ line, state, words }) => rowOf(set, line, awaited?.line === line ? awaited.state : state, words)));
   const has = name => sets.some(lines => lines.some(({ line }) => line === name));
   const comes = awaited && !has(awaited.line) ? [rowOf('', awaited.line, awaited.state, ['…'])] : [];
@@ -88,7 +90,7 @@ function waitsFor(program, { place, buffer }, depth) {
 function buttonTexts(program, { place, buffer }, bus, core) {
   const goesOn = choice => (bus?.choice === choice ? ' (holds the bus)' : '');
   return {
-    step: (program[place] ?? 'finished') + goesOn(`${core}s`),
+    step: (program[place] ?? '') + goesOn(`${core}s`),
     drain: (buffer[0] ?? 'empty') + goesOn(`${core}d`),
   };
 }
@@ -102,7 +104,7 @@ function instructionItems(programs, core) {
   return programs[core].map((text, at) => {
     const kind = own[at], isFirst = !before.includes(kind) && own.indexOf(kind) === at;
     const code = isFirst ? withMeaning({}, kind, text, 'code') : html('code', { 'data-means': kind }, text);
-    return html('li', { value: at }, code);
+    return html('li', { value: at, ...(kind === 'a fence' ? { 'data-means': kind } : {}) }, code);
   });
 }
 
@@ -147,7 +149,7 @@ class CorePanel {
     if (key === this.key && !this.hasOffered) return;
     this.key = key;
     this.registers.show(core.registers, old.registers, this.program.slice(0, core.place).flatMap(writtenBy), this.used, core.place === old.place ? [] : writtenBy(this.program[old.place]), inLesson);
-    [...this.list.children].forEach((item, at) => setAll(item, { 'data-c': inLesson && inC(this.program[at], this.core) }));
+    [...this.list.children].forEach((item, at) => (inLesson ? setAll(item, { 'data-c': inC(this.program[at], this.core) }) : item.removeAttribute('data-c')));
     this.buffer.show(core.buffer, old.buffer, isBuffer ? supply : null);
     this.lines.show(core.lines, changes, bus?.state?.length > 1 ? { line: bus.line, state: bus.state } : null, isBuffer ? null : supply);
     this.showButtons(core, bus, hasEnded);
@@ -160,8 +162,10 @@ class CorePanel {
     this.hasOffered = false;
     this.step.dataset.waits = hasEnded ? '' : waitsFor(this.program, core, this.depth);
     for (const way of ['step', 'drain']) {
-      putText(this[way].lastChild, texts[way]);
-      setAll(this[way], { 'aria-label': `P${this.core}: ${way} ${texts[way]}` });
+      const ended = way === 'step' && isFinished ? `P${this.core} has finished` : '', code = this[way].lastChild;
+      code.previousSibling.data = ended === '' ? ` ${way} ` : ` ${ended}`;
+      putText(code, texts[way]);
+      setAll(this[way], { 'aria-label': ended || `P${this.core}: ${way} ${texts[way]}` });
       this[way].disabled = hasEnded;
       this[way].classList.toggle('idle', stalls[way]);
       this.stalls[way].hidden = hasEnded || !stalls[way] || (way === 'step' && isFinished);
@@ -196,8 +200,8 @@ class CorePanel {
 // The bus and memory.
 
 function busItems(bus, step, supply) {
-  const held = bus && `P${bus.core} holds the bus for ${bus.line}` + (bus.state?.length > 1 ? `, and waits for it (${bus.state})` : '');
-  const passed = [step?.transaction, step?.flush && `flush ${step.flush}`, step?.write_back && `write-back ${step.write_back}`].filter(Boolean);
+  const held = bus && `P${bus.core} holds the bus for ${lineSaid(bus.line)}` + (bus.state?.length > 1 ? `, and waits for it (${bus.state})` : '');
+  const passed = [step?.transaction, step?.flush && `flush ${step.flush}`, step?.write_back && `write-back ${step.write_back}`].filter(Boolean).map(lineSaid);
   const holder = html('span', sourced({ class: held ? 'holder' : '' }, supply), held ?? 'free');
   return [holder, ...passed.map(text => withMeaning({ class: 'word changed' }, text.split(' ')[0], text))];
 }

@@ -41,7 +41,7 @@ function readMet(text) {
 function metSentence({ states, verdict, unfinished }, isStopped) {
   const many = states.length === 1 ? 'One of the outcomes was' : `${states.length} of the outcomes were`;
   const kept = `${unfinished.states.toLocaleString('en')} states`, limit = `The search kept ${kept}, its limit, and didn't end. ${many} met before that`;
-  const met = isStopped ? `The search was stopped. ${many} met among its first ${kept}` : limit;
+  const met = isStopped ? `The search was stopped. ${many} met among its first ${kept}, and later ones weren't told yet` : limit;
   return `${met}; there may be others.${decidedWords(states)}${verdictWords(verdict)}`;
 }
 
@@ -49,9 +49,9 @@ function metSentence({ states, verdict, unfinished }, isStopped) {
 function decidedWords(states) {
   const quantifier = quantifierOf(byId('test').value), isForall = quantifier === 'forall';
   if (quantifier === null || !states.every(({ holds }) => typeof holds === 'boolean')) return '';
-  const isDecided = states.some(({ holds }) => holds !== isForall);
-  const decided = isForall ? 'One of them isn’t as the condition says: so not each run ends so' : 'One of them meets the condition: yes, it can be';
-  return ` ${isDecided ? decided : `${isForall ? 'All' : 'None'} of them ${isForall ? 'meet' : 'meets'} the condition, which decides nothing`}.`;
+  const isDecided = states.some(({ holds }) => holds !== isForall), found = whySaid();
+  const decided = isForall ? 'One of them isn\'t as the condition says: so not each run ends so' : 'One of them meets the condition: yes, it can be';
+  return ` ${isDecided ? decided : `${isForall ? 'All' : 'None'} of them ${isForall ? 'meet' : 'meets'} the condition, ${found === null ? 'which decides nothing' : `and “why” has ${found}`}`}.`;
 }
 
 const valuesText = values => Object.entries(values).map(([name, word]) => `${name}=${word}`).join(' ');

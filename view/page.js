@@ -111,6 +111,7 @@ document.addEventListener('keydown', event => {
   const isForOthers = event.target.matches('textarea, input, select') || event.ctrlKey || event.altKey || event.metaKey || (event.shiftKey && event.key !== '+');
   if (!isForOthers && ASK_KEYS[event.key] && canAsk() && byId('letter-keys').checked) return ask(ASK_KEYS[event.key]);
   if (isForOthers || !(shown.run || drive.isOn)) return;
+  if (KEYS[event.key] && isAsked() && answerByKey(event.key)) return event.preventDefault();
   if (KEYS[event.key] && scrollsBy(event.key, event.target)) return;
   if (KEYS[event.key]) move(KEYS[event.key]);
   else if (!drive.isOn || !driveByKey(event.key)) return;

@@ -2,23 +2,23 @@
 
 // The picture. All measures are pixels.
 
-const GUTTER = 34, HEAD = 34, ROW = 50, BOX = 38, FRAME = 5, MARGIN = 30, INSET = 6;
-const LANE = { most: 300, large: 220, box: 200, least: 66 }; // the last two are of a box in it
+const GUTTER = 34, HEAD = 34, ROW = 56, BOX = 46, FRAME = 5, MARGIN = 28, INSET = 6;
+const LANE = { most: 300, large: 220, box: 210, least: 66 }; // the last two are of a box in it
 const TRACK = { most: 11, room: 44 };
 const PAPER = { whole: 24, piece: 8 }; // rows: of a picture that goes on one page, of a piece of a longer one
-const LEAST_FONT = 9;
+const LEAST_FONT = 9, NOTE_FONT = 12;
 const GLYPH = 0.61; // the width of a letter of the fixed fonts, for a size of 1
 
 /** Where everything stands in a picture of at most this width, or as narrow as a lane may be. */
 function layoutOf({ cores, tracks, order }, width) {
   const pitch = Math.min(TRACK.most, TRACK.room / Math.max(1, tracks));
-  const inner = INSET + tracks * pitch + 10;
+  const inner = INSET + tracks * pitch + 18;
   const lane = Math.min(LANE.most, Math.max(inner + LANE.least + MARGIN, Math.floor((width - GUTTER - 2) / cores)));
   const left = core => GUTTER + core * lane;
   const top = moment => HEAD + moment * ROW;
   const box = Math.min(LANE.box, lane - inner - MARGIN), large = lane >= LANE.large;
   return {
-    tracks, pitch, lane, left, top, label: large ? 17 : 13, note: large ? 12 : 10,
+    tracks, pitch, lane, inner, left, top, label: large ? 17 : 13,
     width: GUTTER + cores * lane + 2, height: top(order.length) + 2,
     middle: entry => top(entry.index + 0.5),
     trackOf: store => left(store.core) + INSET + (store.track + 0.5) * pitch,
@@ -54,7 +54,7 @@ function noteOf(entry, letters) {
   const { passed } = entry;
   if (passed.length === 0) return nameOf(entry);
   const isOwn = passed.includes(entry.source);
-  const [{ location }] = passed, passes = passed.length > 1 ? [` passed ${passed.length} stores`] : [` passed its store to ${location}`, ` passed its ${location}`];
+  const [{ location }] = passed, passes = passed.length > 1 ? [` passed ${passed.length} stores`] : [` passed its store to ${location}`, ` passed store ${location}`, ` passed its ${location}`];
   const notes = isOwn ? [' own store', ' own'] : [...passes, ' passed'];
   return nameOf(entry) + (notes.find(note => nameOf(entry).length + note.length <= letters) ?? '');
 }
@@ -80,16 +80,17 @@ function drawGrid(run, layout, entries) {
 }
 
 /** Over a store's bar: its name, or its place beside other bars. */
-function nameOverBar({ tracks, trackOf }, store, top) {
+function nameOverBar({ tracks, trackOf, left }, store, top) {
   const isAlone = tracks < 2;
-  return textAt({ class: 'faint', x: trackOf(store) + 2 * isAlone, y: top + 11 }, 10, isAlone ? nameOf(store) : String(store.place));
+  return isAlone ? textAt({ class: 'faint', x: left(store.core) + 3, y: top + 13, 'text-anchor': 'start' }, NOTE_FONT, nameOf(store)) :
+    textAt({ class: 'faint', x: trackOf(store), y: top + 13 }, NOTE_FONT, String(store.place));
 }
 
 /** The bar of a store, under its name: dashed where it may have waited, full where it did; and its way to its entry. */
 function drawWait(run, layout, store) {
   const { earliest, latest } = store.wait;
   const { top, pitch } = layout;
-  const x = layout.trackOf(store), wide = Math.min(7, pitch * 0.7), head = pitch === TRACK.most ? 13 : 2;
+  const x = layout.trackOf(store), wide = Math.min(7, pitch * 0.7), head = pitch === TRACK.most ? 16 : 2;
   const bar = (kind, from, to) => svg('rect', { class: kind, x: x - wide / 2, y: from, width: wide, height: to - from });
   const leaves = top(store.index) + (earliest < store.index ? 0 : head); // where there is no bar it begins under the name
   const way = `M${x} ${leaves}V${layout.middle(store)}H${layout.boxOf(store).x}`;
@@ -140,9 +141,9 @@ function drawEntry(run, layout, entry) {
   const x = box.x + box.width / 2;
   return svg('g', { class: kind, 'data-entry': entry.index, 'data-passed': passed.map(store => store.index).join(' ') },
     svg('title', {}, sentenceOf(run, entry)),
-    svg('rect', { ...box, rx: isRead(entry) ? BOX / 2 : 2 }),
-    fittingText({ class: 'note', x, y: box.y + 13 }, layout.note, noteOf(entry, letters - 2), room - 10),
-    fittingText({ x, y: box.y + 31 }, layout.label, labelOf(entry, letters), room));
+    svg('rect', { ...box, rx: isRead(entry) ? 16 : 2 }),
+    fittingText({ class: 'note', x, y: box.y + 18 }, NOTE_FONT, noteOf(entry, letters - 2), room - 2),
+    fittingText({ x, y: box.y + 37 }, layout.label, labelOf(entry, letters), room));
 }
 
 function drawFrame(layout, load) {

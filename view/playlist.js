@@ -2,8 +2,8 @@
 
 // A list of tests for a lecture: each as its address tells it, with a way to the next and to the one before. It is saved with the page.
 
-/** The number of the test of the list that was opened or added last, -1 before one is; of which address the note beside the buttons is,
- * null where there is none; what the bar says; whether one came from the next test; and the addresses of entries left changed. */
+/** The entry's number that was opened or added last, or -1; the address of the note, or null; what the bar says; whether one came from
+ * behind; and the addresses of entries left changed. */
 const playlist = { at: -1, said: null, where: '', isFromBehind: false, left: new WeakMap() };
 
 const LIST_END = 'The end of the list';
@@ -21,17 +21,28 @@ function entryKind() {
 
 const entryNow = () => ({ name: `${TITLES[testName()] ?? testName()}: ${entryKind()}`, address: currentAddress() });
 
-/** Adds what is shown to the list, if it isn't there, and says beside the button which it is. */
+const isUnstepped = () => currentCommand() === 'run' && drive.isOn && drive.words.length === 0 && !isExercise();
+
+/** Gives a test without choices those of the library, so that a lecture steps it. */
+function takeKnownChoices() {
+  const known = isUnstepped() && LIBRARY.map(({ text }) => partsOf(text)).find(({ test, rest }) => test === byId('test').value && /^\d/.test(rest));
+  if (!known) return;
+  putChoices(known.rest.trim());
+  answerNow();
+  goTo(0);
+}
+
 function addToList() {
+  takeKnownChoices();
   const one = entryNow(), at = taught.list.findIndex(({ address }) => address === one.address), isThere = at >= 0;
   if (!isThere && taught.list.length >= MOST_TAUGHT.tests) return sayListed(`The list has ${MOST_TAUGHT.tests} tests, and takes no more.`);
   if (!isThere) taught.list = [...taught.list, one];
   playlist.at = isThere ? at : taught.list.length - 1;
   drawList();
-  sayListed(`${isThere ? 'It is there already, as' : 'Added as'} ${playlist.at + 1}: ${shortName(one)}.`);
+  const unstepped = isUnstepped() ? ' No choices: PageDown goes to the next test.' : '';
+  sayListed(`${isThere ? 'It is there already, as' : 'Added as'} ${playlist.at + 1}: ${shortName(one)}.${unstepped} A reload keeps this list; “Save as a page” keeps it in a file.`);
 }
 
-/** Puts what is shown in the place of the entry that was opened or added last. */
 function updateListed() {
   taught.list = taught.list.with(playlist.at, entryNow());
   drawList();
@@ -40,7 +51,6 @@ function updateListed() {
 
 const shortName = ({ name }) => name.replace(/: (.*)/, ' ($1)');
 
-/** Says something beside the buttons of the list, of what is shown now. */
 function sayListed(sentence) {
   playlist.said = sentence === '' ? null : currentAddress();
   for (const place of document.querySelectorAll('.listed')) putText(place, sentence);
@@ -56,10 +66,8 @@ function isOfEntry(isOfCommand = true) {
 
 const withoutPlace = address => address.replace(/&at=\d+/, ''); // in its run
 
-/** Whether what is shown is that entry, changed. In a lecture none is. */
 const isChangedEntry = () => !isLecture() && isOfEntry() && withoutPlace(taught.list[playlist.at].address) !== withoutPlace(currentAddress());
 
-/** The same, but of exercises. */
 const isToUpdate = () => isChangedEntry() && !isExercise();
 
 /** Keeps what is said of the list with what is shown: notes of something else go, and an entry that was changed can be put anew. */
@@ -77,7 +85,6 @@ function followShown() {
 /** What the browser keeps with the address, so that it is there again after a reload: the list, which of it is shown, and whether in a lecture. */
 const listToKeep = () => ({ list: JSON.stringify(taught.list).length <= MOST_LISTED ? taught.list : [], listed: playlist.at, isLecture: isLecture() });
 
-/** Keeps the list with the address that the browser has. */
 const keepList = () => window.history.replaceState({ ...window.history.state, ...listToKeep() }, '');
 
 /** Takes the list from what the browser kept, after a reload, and goes on with the lecture, if there was one. */
@@ -94,7 +101,6 @@ function dropFromList(at) {
   drawList();
 }
 
-/** Puts a test of the list before the one that stands before it. */
 function raiseInList(at) {
   const { list } = taught;
   taught.list = list.toSpliced(at - 1, 2, list[at], list[at - 1]);
@@ -129,7 +135,6 @@ function showFromBehind() {
 
 const listButton = (attributes, text, isOff = false) => html('button', { type: 'button', ...attributes, ...(isOff ? { disabled: '' } : {}) }, text);
 
-/** Which entry is shown, or the test of which. */
 function whereInList() {
   const { list } = taught, { at } = playlist, place = `${at + 1} of ${list.length}`, all = `${list.length} ${list.length === 1 ? 'entry' : 'entries'}`;
   if (at < 0) return all;
@@ -137,7 +142,6 @@ function whereInList() {
   return isOfEntry(false) ? `${place}: ${plainName(list[at])}, ${currentCommand()}` : `Not in the list of ${all}`;
 }
 
-/** An entry's name without what it shows. */
 const plainName = ({ name }) => name.split(':')[0];
 
 /** The bar over the machine: which entry is shown, if one is, and the ways to the one before and the next. In a lecture it is the foot, which says
@@ -147,13 +151,19 @@ function drawBar() {
   byId('list-bar').hidden = list.length === 0 && !isLecture();
   if (isLecture()) return drawFoot();
   playlist.where = whereInList();
-  const next = !isEnd ? `Next: ${list[at + 1].name} ▶` : at > 0 ? LIST_END : 'Next ▶', isOut = at >= 0 && !isOfEntry() && isEnd;
-  byId('list-bar').replaceChildren(listButton({ 'data-listed': at - 1 }, '◀ Previous', at <= 0), html('span', {}, playlist.where),
+  const next = !isEnd ? `Next: ${list[at + 1].name} ▶` : at > 0 ? LIST_END : 'Next ▶', isOther = list[at] !== undefined && !isOfEntry(false), isOut = at >= 0 && !isOfEntry(isEnd);
+  byId('list-bar').replaceChildren(isOther ? listButton({ 'data-listed': at }, `◀ ${list[at].name}`) : listButton({ 'data-listed': at - 1 }, '◀ Previous', at <= 0), html('span', {}, playlist.where),
     ...(isToUpdate() ? [listButton({ 'data-update-list': '' }, `Update ${at + 1} of ${list.length}`)] : []), ...(isOut ? [] : [listButton({ 'data-listed': at + 1 }, next, isEnd)]));
 }
 
+/** An entry's name in the foot: where another is of the same test, with what it shows. */
+function nameInFoot(entry) {
+  const name = plainName(entry), isTwice = toGoThrough().filter(each => plainName(each) === name).length > 1;
+  return isTwice ? `${name}: ${commandOf(new URLSearchParams(entry.address).get('command'))}` : name;
+}
+
 function drawFoot() {
-  const entries = toGoThrough(), way = (at, text) => (entries[at] ? listButton({ 'data-listed': at, class: 'quiet' }, text(plainName(entries[at]))) : html('i', {}));
+  const entries = toGoThrough(), way = (at, text) => (entries[at] ? listButton({ 'data-listed': at, class: 'quiet' }, text(nameInFoot(entries[at]))) : html('i', {}));
   playlist.where = footSaid();
   byId('list-bar').replaceChildren(way(placeBefore(), name => `◀ ${name}`), listButton({ 'data-onward': '', class: 'quiet' }, playlist.where, !onward()), way(placeNow() + 1, name => `${name} ▶`));
 }
@@ -175,7 +185,6 @@ function drawList() {
   followShown();
 }
 
-/** Puts a field in the place of an entry's name, in which one writes another. */
 function renameListed(at) {
   const item = byId('list').children[at], named = { 'aria-label': 'Name in the list', 'data-name-of': at };
   const field = html('input', { type: 'text', inputmode: 'text', maxlength: MOST_NAME, ...named });
@@ -190,7 +199,6 @@ function renameListed(at) {
   });
 }
 
-/** Folds the list; a focus in it goes to its name. */
 function foldList() {
   document.querySelector('#list-part:focus-within > summary')?.focus();
   byId('list-part').open = false;

@@ -189,15 +189,51 @@ function wayBack(start, leaving) {
   return way.map(({ edge }) => edge);
 }
 
-/** A shortest cycle of an execution's edges and program order, or an empty one, through what is `wanted` if it can. It begins with an order that TSO
- * doesn't keep, that of a store and one of the `loads` that passed it. */
+/** The edges to the writes that come later than that to which an edge of coherence or from a read leads. */
+function laterEdges({ from, relation, to }, edges) {
+  const next = ['co', 'fr'].includes(relation) && edges.find(each => each.relation === 'co' && each.from === to);
+  return next ? [{ from, relation, to: next.to }, ...laterEdges({ from, relation, to: next.to }, edges)] : [];
+}
+
+const NO_STEP = ({ edge, from, to }) => from[1] === to[1] && (['rf', 'co', 'fr'].includes(edge.relation) || (edge.relation === 'po' && /W$/.test(from) && /R$/.test(to)));
+
+/** A cycle with as many as can be of the loads at the places that are `wanted`, a shortest one of these; null where none has any. It comes to each
+ * core once, first to the one with the least number. */
+function cycleThrough(wanted, leaving) {
+  const isAsked = name => Number(/R$/.test(name) && wanted.includes(name.split(' ')[0])), coreOfName = name => Number(name[1]);
+  const isBetter = (one, other) => other === null || one.asked > other.asked || (one.asked === other.asked && one.edges.length < other.edges.length);
+  let best = { asked: 0, edges: null };
+  for (const start of leaving.keys()) {
+    const known = new Map();
+    const wayFrom = (name, cores, isMoved) => {
+      const key = `${name} ${cores} ${isMoved}`;
+      if (known.has(key)) return known.get(key);
+      let way = null;
+      for (const step of leaving.get(name)?.filter(each => !NO_STEP(each)) ?? []) {
+        const core = coreOfName(step.to), isOwn = core === coreOfName(name);
+        const rest = isOwn ? !isMoved && wayFrom(step.to, cores, true)
+          : step.to === start ? { asked: 0, edges: [] } : core > coreOfName(start) && (cores >> core) % 2 === 0 && wayFrom(step.to, cores + 2 ** core, false);
+        const found = rest && { asked: rest.asked + isAsked(step.to), edges: [step.edge, ...rest.edges] };
+        if (found && isBetter(found, way)) way = found;
+      }
+      known.set(key, way);
+      return way;
+    };
+    const way = wayFrom(start, 0, false);
+    if (way !== null && way.asked > 0 && isBetter(way, best)) best = way;
+  }
+  return best.edges;
+}
+
+/** A cycle of an execution's edges and program order, or an empty one: with what is `wanted`, as much as can be, else a shortest one. It begins
+ * with an order that TSO doesn't keep, that of a store and one of the `loads` that passed it. */
 function forbiddenCycle(edges, programs, loads, wanted) {
   const stepOf = edge => ({ edge, from: nameOfEvent(edge.from), to: nameOfEvent(edge.to) }), leaving = new Map();
   const steps = [...edges, ...edgesOfPrograms(edges, programs)].map(stepOf);
   for (const step of steps) leaving.set(step.from, [...(leaving.get(step.from) ?? []), step]);
-  const ways = [...leaving.keys()].map(event => wayBack(event, leaving)).filter(way => way !== null);
-  const isWanted = way => way.some(edge => wanted.some(place => isAt(edge, place)));
-  const [cycle = []] = ways.sort((one, other) => isWanted(other) - isWanted(one) || one.length - other.length);
+  const shortest = () => [...leaving.keys()].map(event => wayBack(event, leaving)).filter(way => way !== null).sort((one, other) => one.length - other.length)[0];
+  const far = new Map([...leaving].map(([name, own]) => [name, [...own, ...own.flatMap(({ edge }) => laterEdges(edge, edges)).map(stepOf)]]));
+  const cycle = cycleThrough(wanted, far) ?? shortest() ?? [];
   const isSame = (entry, text) => nameOfEvent(entry.text) === nameOfEvent(text);
   const isPassed = ({ from, to }) => loads.some(load => isSame(load, to) && load.passed.some(store => isSame(store, from)));
   const unkept = cycle.filter(({ relation }) => relation === 'unkept');

@@ -11,8 +11,8 @@ const RELATIONS = {
   unkept: {
     label: 'po, not kept',
     short: 'po ✗',
-    means: 'Program order from a store to a later load of another location: TSO doesn’t keep it.',
-    says: (from, to) => `${from} stands before ${to} in the program of its core, and TSO doesn’t keep that order.`,
+    means: 'Program order from a store to a later load of another location: TSO doesn\'t keep it.',
+    says: (from, to) => `${from} stands before ${to} in the program of its core, and TSO doesn't keep that order.`,
   },
   rf: {
     means: 'Reads from: a write is before the read that returns its value.',

@@ -133,7 +133,7 @@ function chipsOf(layout, edges, ways) {
   let covered = 0;
   edges.forEach((_, at) => {
     const others = ways.filter((_, other) => other !== at).flatMap(({ points }) => points);
-    const cost = chip => 100 * [...layout.words, ...layout.boxes.values()].filter(part => overlap(chip, part)).length + 50 * chips.filter(other => overlap(chip, other)).length + others.filter(point => holds(chip, point)).length;
+    const cost = chip => 100 * layout.words.filter(part => overlap(chip, part)).length + 400 * [...layout.boxes.values()].filter(part => overlap(chip, part)).length + 50 * chips.filter(other => overlap(chip, other)).length + others.filter(point => holds(chip, point)).length;
     const found = chipPoints(ways[at].points).map(point => chipAt(layout, point, lettersAt(edges, at, layout.isNarrow).length)).map(chip => ({ chip, cost: cost(chip) }));
     const { chip, cost: least } = found.reduce((best, each) => (each.cost < best.cost ? each : best));
     covered += least;

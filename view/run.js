@@ -27,7 +27,6 @@ function wordItems(run, entry) {
   return isUntold ? [...items, html('li', {}, '?: no read returned this initial value, so the line doesn\'t tell it')] : items;
 }
 
-/** Covers what comes after this step, and marks the entry that was the last. */
 function markStep(layout, entry) {
   const picture = byId('frame').firstChild;
   const y = layout.top(shown.step);
@@ -82,7 +81,6 @@ function hideRun() {
   byId('message').textContent = '';
 }
 
-/** Shows the picture of this line, or says why there is none. */
 function show(text) {
   hideRun();
   if (text.trim() === '') return;

@@ -19,7 +19,7 @@ const ANSWERS_OF = {
   run: 'What one run does: the one of the choices below.', outcomes: 'All outcomes, with choices that lead to each.',
   sweep: 'How often each outcome comes, in the runs of many seeds.', counts: 'What the caches did, in the runs of many seeds.',
   check: 'Whether an order is one of TSO.', witness: 'Choices that lead to an order.', tables: 'The table of a protocol.',
-  why: 'Why the end that is asked for can’t be, or how it can.',
+  why: 'Why the end that is asked for can\'t be, or how it can.',
 };
 /** What the button says that begins a long command. */
 const BEGINS = { outcomes: 'Find all outcomes', sweep: 'Run the seeds', counts: 'Count the runs', why: 'Say why' };

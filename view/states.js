@@ -67,6 +67,10 @@ function keySaid(names) {
 function statesSheet(outcomes, sequential, truths) {
   const table = outcomesTable(outcomes, sequential, truths);
   for (const head of [...table.querySelectorAll('thead th')].slice(0, -1)) head.replaceChildren(html('button', { type: 'button', class: 'sorts' }, head.textContent));
+  for (const head of table.querySelectorAll('thead th')) {
+    const [, core] = /^(\d):EAX$/.exec(head.textContent) ?? [];
+    if (core && isToldInC(readTest(inputOf('outcomes')))) head.dataset.c = ` (r${core})`;
+  }
   for (const button of table.querySelectorAll('thead .sorts')) if (Object.hasOwn(MEANINGS, button.textContent)) button.dataset.means = button.textContent;
   const filter = html('input', { class: 'filter', type: 'search', autocomplete: 'off', placeholder: '0:EAX=1' });
   const alone = sequential ? [html('label', {}, html('input', { class: 'alone', type: 'checkbox' }), ' TSO alone')] : [];

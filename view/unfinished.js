@@ -4,20 +4,27 @@
 
 const MORE = 10; // times the limit, by one press
 
+/** What `why` has told of the condition of this test; null where it told nothing. */
+function whySaid() {
+  const test = inputOf('why'), never = quantifierOf(test) === 'forall' ? 'each run ends as the condition says' : 'no run ends as the condition asks';
+  return possible.refuted === test ? `shown that ${never}` : possible.found === test ? 'found a run that ends as the condition asks' : null;
+}
+
 /** What one can do where a limit was too low, or where somebody stopped the work (`met` final states are known then): buttons and words. */
-function waysOn(command, { isStopped = false, met = 0 } = {}) {
-  const isFound = possible.found === inputOf('why'), name = LIMIT_OF[command], most = Number(settingOf(name).max), next = Math.min(most, MORE * valueOf(name));
+function waysOn(command, { isStopped = false, met = 0, among } = {}) {
+  const found = whySaid(), name = LIMIT_OF[command], most = Number(settingOf(name).max), next = Math.min(most, MORE * valueOf(name));
   const button = (attributes, text) => html('button', { type: 'button', ...attributes }, text);
   const again = html('li', {}, button({ 'data-ask': command }, 'Begin again'), ' It starts from nothing, with the same limit.');
   const allow = button({ 'data-more': `${name} ${next}` }, `Allow ${next.toLocaleString('en')} ${name}`);
   const higher = next > valueOf(name) ? [html('li', {}, allow, ' It takes longer, and more memory.')] : [];
   const many = met === 1 ? 'One outcome' : `${met} outcomes`;
-  const shown = html('li', {}, button({ 'data-met': '' }, 'Show what was met'), ` ${many}; there may be others.`);
+  const shown = html('li', {}, button({ 'data-met': '' }, 'Show what was met'), ` ${many}, among the first ${grouped(among ?? 0)} states. Later ones weren't told yet.`);
   const other = command === 'outcomes'
-    ? [html('li', {}, button({ 'data-ask': 'why' }, isFound ? 'Show it' : 'Ask why'), isFound ? ' Why has found one: a run that ends as the condition asks.' : ' It looks at the one end that the condition asks for, and needs no states.')]
+    ? [html('li', {}, button({ 'data-ask': 'why' }, found === null ? 'Ask why' : 'Show it'), found !== null ? ` “Why” has ${found}.` : ' It looks at the one end that the condition asks for, and needs no states.')]
     : [html('li', {}, button({ 'data-ask': 'outcomes' }, 'Find all outcomes'), ' It goes through the states of the machine, and tells no cases apart.')];
   const fewer = 'Name fewer registers and locations in the condition: ends are told apart by these alone. Or take fewer instructions or cores.';
-  return html('ul', { class: 'ways-on' }, ...other, ...(met > 0 ? [shown] : []), ...(isStopped ? [again] : higher), html('li', {}, fewer));
+  const isLast = command === 'outcomes' && found !== null;
+  return html('ul', { class: 'ways-on' }, ...(isLast ? [] : other), ...(met > 0 ? [shown] : []), ...(isLast ? other : []), ...(isStopped ? [again] : higher), html('li', {}, fewer));
 }
 
 const UNFINISHED = {
@@ -27,7 +34,7 @@ const UNFINISHED = {
 
 /** A sheet for a search that met its limit before it had a final state. */
 function unfinishedParts(command) {
-  return [answerTitle('Not finished'), html('p', { role: 'status' }, UNFINISHED[command](valueOf(LIMIT_OF[command]).toLocaleString('en'))), waysOn(command)];
+  return [answerTitle('Not finished'), html('p', { role: 'status', class: 'is-open' }, UNFINISHED[command](valueOf(LIMIT_OF[command]).toLocaleString('en'))), waysOn(command)];
 }
 
 document.addEventListener('click', ({ target }) => {

@@ -63,7 +63,7 @@ function showReason(answer, test, beside) {
   const heading = answerTitle(title);
   setAll(heading, early);
   const section = html('section', { class: 'reason', 'aria-label': 'Why' }, heading,
-    html('p', { role: 'status' }, ...(isTso ? judgeThought(can) : []), html('strong', early, plainAnswer(told, proposition))),
+    html('p', { role: 'status' }, ...(isTso ? judgeThought(can) : []), verdictOf(plainAnswer(told, proposition), early)),
     ...enoughPart(told, test, proposition), html('p', { class: 'small faint' }, eventsSaid(answer.text) + readAsSaid(test)), ...countsOffer(), ...parts);
   byId('states').replaceChildren(section);
   const [first, second] = told.answer === 'never' ? cyclesOf(told.steps) : [];
@@ -72,6 +72,12 @@ function showReason(answer, test, beside) {
   showQuestion(test);
   showFromBehind();
   section.append(inTerms(reasonSentence(told, proposition)), sheetTools(section.querySelector('figure') !== null));
+}
+
+/** An answer's first sentence, with a sign before a yes and a no. */
+function verdictOf(sentence, attributes = {}) {
+  const [, word = 'plain'] = /^(Yes|No):/.exec(sentence) ?? [];
+  return html('strong', { ...attributes, class: `is-${word.toLowerCase()}` }, sentence);
 }
 
 /** The answer in one plain sentence, with the words that are asked for where the condition is plain. */
@@ -133,7 +139,7 @@ function allowedParts(answered, programs, proposition, beside) {
   const choices = own.isShown ? own.choices : late && isExecution(late.run.order, told) ? late.choices : told.choices;
   const places = proposition === null ? null : wantedWords(proposition), wanted = places === null ? [] : askedPlaces(programs, places, coherence);
   const executed = edgesOf(told), isMany = executed.length > MANY_EDGES && wanted.length > 0;
-  const loads = loadsThatPassed(choices, model), cycle = forbiddenCycle(executed, programs, loads, isMany ? wanted : []);
+  const loads = loadsThatPassed(choices, model), cycle = forbiddenCycle(executed, programs, loads, wanted);
   const passes = passEdges(loads, executed, cycle), few = [...cycle, ...askedEdges(executed, wanted)];
   const edges = [...new Set(isMany ? [...few, ...executed, ...passes] : [...cycle, ...passes, ...few, ...executed])];
   const run = html('button', { type: 'button', 'data-choices': choices, 'data-depth': DEPTH_OF[model] }, 'Run it');
@@ -144,7 +150,7 @@ function allowedParts(answered, programs, proposition, beside) {
 /** An execution that is drawn, edge by edge: first its forbidden cycle, if it has one. */
 function executionPart(programs, edges, few, cycle) {
   if (edges.length === 0) return [];
-  const [first] = cycle, end = `So this run needs store buffers: without them ${first?.from} would be before itself. TSO doesn’t keep the dashed arrows.`;
+  const [first] = cycle, end = `So this run needs store buffers: without them ${first?.from} would be before itself. TSO doesn't keep the dashed arrows.`;
   const told = { end: first ? end : '', name: 'The execution', closed: cycle.length, arrow: 'without store buffers, ' };
   const panelOf = (shown, isAll) => new CyclePanel(programs, shown, { ...told, isAll });
   return [drawExecution(programs, edges, few, panelOf)];
@@ -205,16 +211,16 @@ function passEdges(loads, executed, cycle) {
   });
 }
 
-/** What loads passed in the run that a sentence names so, and what keeps such an order. Of many those of the cycle. */
+/** What loads passed in the run that a sentence names so, and what keeps such an order. Of many those of the cycle, and the others in a fold. */
 function passesPart(loads, named, cycle, { isToo, isMany }) {
   const passes = toldFirst(loads, cycle).flatMap(passSentences), isOne = loads.length === 1;
   if (passes.length === 0) return [];
-  const title = isOne ? 'A load passes a store' : 'Loads pass stores', more = passes.splice(isMany ? Math.max(1, loads.filter(load => isOfCycle(load, cycle)).length) : MOST_PASSES).length;
-  if (more > 0) passes.push(`And ${more} more.`);
+  const title = isOne ? 'A load passes a store' : 'Loads pass stores', more = passes.splice(isMany ? Math.max(1, loads.filter(load => isOfCycle(load, cycle)).length) : MOST_PASSES);
   const enough = isOne ? ' One load that passes its store is enough.' : '';
   const after = isToo ? ' In another run that ends so, other loads may pass, or none.'
-    : ' This is the one order of a program that TSO doesn’t keep. MFENCE or a locked instruction between the store and the load would keep it. In another run that ends so, other loads may pass.';
-  return [html('p', {}, html('strong', {}, `${title} in ${named}: `), passes.join(' ') + enough, html('span', { class: 'fine' }, after))];
+    : ' This is the one order of a program that TSO doesn\'t keep. MFENCE or a locked instruction between the store and the load would keep it. In another run that ends so, other loads may pass.';
+  const rest = more.length > 0 ? [html('details', { class: 'in-tables' }, html('summary', {}, `And ${more.length} more${isMany ? ', which the cycle below doesn\'t have' : ''}`), html('ul', {}, ...more.map(each => html('li', {}, each))))] : [];
+  return [html('p', {}, html('strong', {}, `${title} in ${named}: `), passes.join(' ') + enough, html('span', { class: 'fine' }, after)), ...rest];
 }
 
 /** Marks a step of the tree, and opens the cases that it is in. */

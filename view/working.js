@@ -57,10 +57,10 @@ function placeStopped() {
 
 /** Says in sight that the work was stopped, how far it had come, and what one can do: the final states that were met by then can be shown. */
 function sayStopped(command) {
-  const { progress } = working, met = command === 'outcomes' && progress !== null ? readMet(progress.answer.text).states.length : 0;
+  const { progress } = working, { states, unfinished } = command === 'outcomes' && progress !== null ? readMet(progress.answer.text) : {}, met = states?.length ?? 0, among = unfinished?.states;
   const far = progress === null ? '' : `, at about ${grouped(estimated(progress))} of at most ${grouped(progress.most)} ${LIMIT_OF[progress.command]}`;
   byId('stopped-said').textContent = `Stopped after ${secondsWorked()} s${far}: there is no whole answer.`;
-  byId('stopped-ways').replaceChildren(...(Object.hasOwn(LIMIT_OF, command) ? [waysOn(command, { isStopped: true, met })] : []));
+  byId('stopped-ways').replaceChildren(...(Object.hasOwn(LIMIT_OF, command) ? [waysOn(command, { isStopped: true, met, among })] : []));
   placeStopped();
 }
 

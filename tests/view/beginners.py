@@ -46,7 +46,7 @@ def ways_row(bench):
     bench.window.click("#lesson-also")
     faults += differs("on to fences", bench.value("[lesson.told.name, lesson.at, byId('lesson-also').getClientRects().length]"), ["fences", 0, 0])
     bench.value("enterStep(1)")
-    return faults + differs("what to press", bench.text("#lesson-now"), "P0\u2019s store first. Press step at P0 0s") + safety(bench)
+    return faults + differs("what to press", bench.text("#lesson-now"), "P0's store first. Press step at P0 0s") + safety(bench)
 
 
 def held_back_row(bench):
@@ -62,16 +62,16 @@ def held_back_row(bench):
 
 
 def signs_row(bench):
-    """A run that shows that it can be says so, and nothing of other runs; the signs of the condition have their meanings."""
+    """A run that shows that it can be says so, and nothing of other runs; the condition in words has what is written as its meaning."""
     bench.open_fresh()
     faults = []
-    for words, wanted in (("0s 1s 0s 1s 0d 1d", "This run shows that it can be. Condition: exists (0:EAX=0 /\\ 1:EAX=0), true at this end."),
-                          ("0s 0d 0s 1s 1d 1s", "This run doesn't show the outcome that is asked for. This tells nothing about other runs. Condition: exists (0:EAX=0 /\\ 1:EAX=0), false at this end.")):
+    for words, wanted in (("0s 1s 0s 1s 0d 1d", "This run shows that it can be. Both loads read 0: true."),
+                          ("0s 0d 0s 1s 1d 1s", "This run doesn't show the outcome that is asked for. This tells nothing about other runs. Both loads read 0: false.")):
         bench.fill("choices", words)
         bench.value("DRIVES.last()")
         faults += differs("the verdict", bench.text("#verdict"), wanted)
     signs = bench.value("[...document.querySelectorAll('#verdict [data-means]')].map(each => [each.textContent, each.tabIndex, MEANINGS[each.dataset.means]])")
-    faults += differs("signs", signs, [["exists", 0, "Asks whether a run ends so."], ["/\\", 0, "And."]])
+    faults += differs("signs", signs, [["Both loads read 0", 0, "Written exists (0:EAX=0 /\\ 1:EAX=0)."]])
     bench.value("byId('lecture').click()")
     bench.wait("isLecture()")
     bench.value("DRIVES.last()")

@@ -1,5 +1,6 @@
 """The bench of the page, and the program beside it: what the rows of the page with its machine share."""
 import base64
+import glob
 import json
 import os
 import subprocess
@@ -68,6 +69,13 @@ def differs(what, got, wanted):
 def read(*path):
     with open(os.path.join(*path)) as file:
         return file.read()
+
+
+def texts():
+    """The names and texts of all examples and of the gallery."""
+    for path in sorted(glob.glob(os.path.join(EXAMPLES, "*.*")) + glob.glob(os.path.join(EXAMPLES, "gallery", "*.*"))):
+        if path.endswith((".litmus", ".order")):
+            yield os.path.basename(path), read(path)
 
 
 class Bench:

@@ -20,7 +20,7 @@ apt-get install -y --no-install-recommends chromium poppler-utils
 - The machine that is driven is at each step the one that the trace tells, and its picture too: the rows of driving.py; and it stands first: those of first.py. Where the
   module tells no steps, or there is none, stand_in.js answers in its place.
 - With the module that tools/page has made of this tree (else that part is left out with a word) the page answers as the program does:
-  the rows of machine.py and looks.py; and so it does where it once went wrong: the rows of repairs.py; what is saved and kept: those of kept.py. Why something can't be, or how it
+  the rows of machine.py, carried.py and looks.py; and so it does where it once went wrong: the rows of repairs.py; what is saved and kept: those of kept.py. Why something can't be, or how it
   can, is told, drawn and run as the program tells it: the rows of reasons.py.
 
 - What teaches: lessons, tasks, terms (teaching.py, lessons.py, beginners.py); the larger set of instructions (larger.py); work that is long, undo, branches and ways

@@ -64,7 +64,8 @@ def faults_of_tables(page, run):
               for name in ("hits", "misses", "upgrades", "forwards", "write_backs", "flushes")]
     faults = differs("registers, memory and cache", cells, [registers, memory, counts])
     said = "none" if run["condition"] is None else "Condition: %(kind)s, %(holds)s at this end." % run["condition"]
-    return faults + ([] if said.lower() in page.text("#verdict").lower() else ["verdict: " + page.text("#verdict")])
+    words = "" if run["condition"] is None else ": %s." % run["condition"]["holds"] # in words, where they say it
+    return faults + ([] if said.lower() in page.text("#verdict").lower() or words and page.text("#verdict").endswith(words.lower()) else ["verdict: " + page.text("#verdict")])
 
 
 def faults_of_steps(page, line):

@@ -66,7 +66,7 @@ DRAWN = "[...document.querySelectorAll('.reason .head')].map(each => each.textCo
 
 
 def left_out_row(bench):
-    """Of many cores those without an arrow are left out, and of many arrows those that don't matter for what is asked; a box shows all."""
+    """Of many cores those without an arrow are left out, which is said; and of many arrows those that don't matter for what is asked, where a box shows all."""
     bench.open_fresh(width=1280)
     faults, all_cores = [], ["P%d" % core for core in range(8)]
     for word, few in ((0, ["P4", "P5"]), (1, ["P4", "P5"])):
@@ -75,11 +75,14 @@ def left_out_row(bench):
         bench.wait("!bench.task && document.querySelector('.reason .drawn-part')")
         faults += differs("cores of %d" % word, bench.value(DRAWN), few)
         edges = bench.value("document.querySelectorAll('.reason [data-edge]').length")
-        bench.value("document.querySelector('.reason .drawn-part input[type=checkbox]').click()")
-        faults += differs("all cores of %d" % word, bench.value(DRAWN), all_cores)
-        every = bench.value("document.querySelectorAll('.reason [data-edge]').length")
-        is_said = bench.text(".drawn-part .buttons").startswith("Drawn are all %d arrows." % every)
-        faults += [] if is_said and (word == 0 or every > edges) else ["all arrows are %d" % edges]
+        if word == 0:
+            faults += differs("what is left out", bench.text(".drawn-part .buttons"), "Cores without an arrow are left out.")
+        else:
+            bench.value("document.querySelector('.reason .drawn-part input[type=checkbox]').click()")
+            faults += differs("all cores of %d" % word, bench.value(DRAWN), all_cores)
+            every = bench.value("document.querySelectorAll('.reason [data-edge]').length")
+            is_said = bench.text(".drawn-part .buttons").startswith("Drawn are all %d arrows." % every)
+            faults += [] if is_said and every > edges else ["all arrows are %d" % edges]
         bench.value("backToRun()")
     return faults + safety(bench)
 

@@ -26,15 +26,16 @@ LARGE = "X86 large\n{ }\n %s ;\n" % " | ".join("P%d" % core for core in range(8)
     for row in range(32))
 
 
-SHOWN = """[...document.querySelectorAll('#machines .machine')].map(machine => ({
+# What the machines show. A register's name in C, which tests of lessons have beside it, is left out.
+SHOWN = """(IN_C => [...document.querySelectorAll('#machines .machine')].map(machine => ({
   cores: [...machine.querySelectorAll('.core')].map(core => ({
     buttons: [...core.querySelectorAll('.core-buttons code')].map(each => each.textContent),
     disabled: [...core.querySelectorAll('[data-choice]')].map(each => each.disabled),
     dead: [...core.querySelectorAll('[data-choice]')].map(each => each.matches('.idle')), offers: [...core.querySelectorAll('.stall')].map(each => !each.hidden),
     place: [...core.querySelectorAll('.program li')].findIndex(each => each.hasAttribute('aria-current')),
     program: [...core.querySelectorAll('.program li')].map(each => each.textContent),
-    registers: Object.fromEntries([...core.querySelectorAll('.registers .word')].map(each => each.textContent.split('='))),
-    changedRegisters: [...core.querySelectorAll('.registers .changed')].map(each => each.textContent),
+    registers: Object.fromEntries([...core.querySelectorAll('.registers .word')].map(each => each.textContent.replace(IN_C, '').split('='))),
+    changedRegisters: [...core.querySelectorAll('.registers .changed')].map(each => each.textContent.replace(IN_C, '')),
     buffer: [...core.querySelectorAll('.buffer .slot:not(.free, .left)')].map(each => each.textContent),
     left: [...core.querySelectorAll('.buffer .left')].map(each => each.lastChild.textContent),
     lines: [...core.querySelectorAll('.cache tbody tr:not(.gone)')].filter(row => row.querySelector('.state')).map(row =>
@@ -48,7 +49,7 @@ SHOWN = """[...document.querySelectorAll('#machines .machine')].map(machine => (
   }).sort(),
   bus: machine.querySelector('.bus').textContent,
   memory: [...machine.querySelectorAll('.memory li')].map(each => each.textContent),
-}))"""
+})))(/ \\(r\\d\\)/)"""
 
 
 DRAWN = """({
@@ -101,6 +102,17 @@ class Driver(Bench):
         self.window.key(key)
 
 
+def line_said(line):
+    """A line's name as the page says it: x, y for x+y; in what goes over the bus too."""
+    return line.replace("+", ", ")
+
+
+def words_said(line):
+    """A line's words, each by its name where they are several."""
+    names, words = line["line"].split("+"), line["words"]
+    return " ".join("%s=%d" % each for each in zip(names, words)) if len(words) > 1 else str(words[0])
+
+
 def state_of(machine, core, line, state):
     bus = machine["bus"]
     return bus["state"] if bus and bus["core"] == core and bus["line"] == line and len(bus["state"] or "") > 1 else state
@@ -130,14 +142,14 @@ def wanted_core(trace, step, before, machine, number):
     core, old, program = machine["cores"][number], before["cores"][number], trace["programs"][number]
     bus = machine["bus"] or {"choice": None}
     written = written_registers(program[old["place"]]) if core["place"] != old["place"] else []
-    lines = [[line["line"], state_of(machine, number, line["line"], line["state"]), " ".join(map(str, line["words"]))] for cached in core["lines"] for line in cached]
-    if machine["bus"] and bus["core"] == number and len(bus["state"] or "") > 1 and bus["line"] not in [line[0] for line in lines]:
-        lines.append([bus["line"], bus["state"], "…"])
-    changes = [text.partition(".")[2] for text in (step["states"] if step else []) if text.startswith("P%d." % number)]
+    lines = [[line_said(line["line"]), state_of(machine, number, line["line"], line["state"]), words_said(line)] for cached in core["lines"] for line in cached]
+    if machine["bus"] and bus["core"] == number and len(bus["state"] or "") > 1 and line_said(bus["line"]) not in [line[0] for line in lines]:
+        lines.append([line_said(bus["line"]), bus["state"], "…"])
+    changes = [line_said(text.partition(".")[2]) for text in (step["states"] if step else []) if text.startswith("P%d." % number)]
     ended = all(each["place"] == len(trace["programs"][at]) and not each["buffer"] for at, each in enumerate(machine["cores"]))
     holds = [" (holds the bus)" if bus["choice"] == "%d%s" % (number, way) else "" for way in "sd"]
     return {
-        "buttons": [(program[core["place"]] if core["place"] < len(program) else "finished") + holds[0],
+        "buttons": [(program[core["place"]] if core["place"] < len(program) else "") + holds[0],
                     (core["buffer"][0] if core["buffer"] else "empty") + holds[1]],
         "disabled": [ended, ended], "place": core["place"] if core["place"] < len(program) else -1, "program": program,
         "registers": {name: str(word) for name, word in core["registers"].items() if name in used_registers(trace, number)},
@@ -160,7 +172,7 @@ def wanted_sources(step):
         return sorted([supplied, reader if supplied == "buffer" else "", location, "→P" + reader] for location in locations)
     there = [line["line"] for lines in step["after"]["cores"][int(owner)]["lines"] for line in lines]
     gone = [text.partition(".")[2].partition(" ")[0] for text in step["states"] if text.startswith("P%s." % owner) and text.endswith(">I")]
-    return [["cache", owner, line, "→P" + reader] for line in there + gone if set(locations) & set(line.split("+"))]
+    return [["cache", owner, line_said(line), "→P" + reader] for line in there + gone if set(locations) & set(line.split("+"))]
 
 
 def faults_of_machine(shown, trace, count):
@@ -178,10 +190,10 @@ def faults_of_machine(shown, trace, count):
     words = ["%s=%d%s" % (name, word, "" if machine["seen"][name] == word else " newest %d" % machine["seen"][name]) for name, word in machine["memory"].items()]
     faults += differs("memory after %d" % count, sorted(shown["memory"]), sorted(words))
     faults += differs("where a word was read after %d" % count, shown["sources"], wanted_sources(step))
-    held = "P%(core)d holds the bus for %(line)s" % machine["bus"] if machine["bus"] else "free"
+    held = line_said("P%(core)d holds the bus for %(line)s" % machine["bus"]) if machine["bus"] else "free"
     faults += [] if shown["bus"].startswith(held) else ["the bus after %d: %s, and not %s" % (count, shown["bus"], held)]
     for name in ("transaction", "flush", "write_back"):
-        if step and step[name] and step[name] not in shown["bus"]:
+        if step and step[name] and line_said(step[name]) not in shown["bus"]:
             faults.append("the bus after %d doesn't say %s" % (count, step[name]))
     return faults
 

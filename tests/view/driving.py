@@ -19,7 +19,7 @@ def faults_of_dead(bench, word, step):
     shown = bench.value(SHOWN)[0]["cores"][core]
     stalls = step["outcome"] == "stalled"
     faults = ["%s looks dead, and does something" % word] if shown["dead"][way] and not stalls else []
-    is_offered = shown["dead"][way] and shown["buttons"][way] != "finished"
+    is_offered = shown["dead"][way] and shown["buttons"][way] != ""
     faults += ["%s: a button offers to stall where it is %s" % (word, shown["offers"][way])] if shown["offers"][way] != is_offered else []
     if stalls:
         bench.value("document.querySelector('[data-choice=\"%s\"]').click()" % word)
@@ -72,7 +72,7 @@ def begins_row(bench, folder):
     for count in range(1, 7):
         bench.window.click("[data-move=forward]")
         faults += faults_at(bench, trace, count)
-    said = "This run shows that it can be. Condition: exists (0:EAX=0 /\\ 1:EAX=0), true at this end."
+    said = "This run shows that it can be. Both loads read 0: true."
     faults += [] if said in bench.text("#verdict") else ["the verdict: " + bench.text("#verdict")]
     faults += differs("at its end", bench.value("[byId('at-end').hidden, document.querySelector('[data-move=forward]').disabled, byId('play').disabled]"), [False, True, True])
     return faults + safety(bench)

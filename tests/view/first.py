@@ -41,7 +41,7 @@ def task_row(bench):
     for choice in "0s 0s 1s 1s".split():
         bench.window.click("[data-choice='%s']" % choice)
     faults += differs("the task", bench.text("#task"), "✓ Task: Make both loads read 0. Done. P0 read y before memory saw its store to x (P0:1 passed P0:0). "
-                      "P1 read x before memory saw its store to y (P1:1 passed P1:0).")
+                      "P1 read x before memory saw its store to y (P1:1 passed P1:0).Why can it be?")
     bench.window.click("[data-move=first]")
     for choice in "0s 0d 0s 1s 1s".split():
         bench.window.click("[data-choice='%s']" % choice)
@@ -153,7 +153,7 @@ def written_row(bench):
     for choice in "0s 0s".split():
         bench.window.click("[data-choice='%s']" % choice)
     written = bench.value("[...document.querySelectorAll('.registers')].map(each => [...each.querySelectorAll('.written')].map(item => item.textContent))")
-    return differs("written registers", written, [["EAX=0"], []]) + safety(bench)
+    return differs("written registers", written, [["EAX (r0)=0"], []]) + safety(bench)
 
 
 def judged_row(bench, folder):

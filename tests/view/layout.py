@@ -114,7 +114,7 @@ def still_lecture_row(bench):
     bench.wait("!bench.task && document.querySelector('.cycle')")
     end = "getComputedStyle(document.querySelector('.tree .step-leaf')).visibility"
     found = [bench.value(end)]
-    for _ in range(3):
+    for _ in range(4):
         bench.value(CLICKED % "PageDown")
     found.append(bench.value(end))
     bench.value("putLecture(false)")
@@ -266,7 +266,7 @@ def hall_words_row(bench):
         faults += differs("at the start", bench.text("#sentence"), "The machine at its start. 6 choices are known: PageDown makes them.")
         tops = bench.value("drive.words.map((_, at) => (goTo(at + 1), Math.round(byId('verdict').getBoundingClientRect().top)))")
         faults += differs("under the picture", len(set(tops)), 1)
-        faults += differs("the verdict", bench.text("#verdict"), "It can be: this run ends with 0 in P0's EAX and 0 in P1's EAX.")
+        faults += differs("the verdict", bench.text("#verdict"), "Yes: this run ends with 0 in P0's EAX and 0 in P1's EAX.")
         bench.value("loadText('false-sharing.litmus'); putBeside(JSON.stringify(ABREAST))")
         lines = bench.value("[0, ...drive.words].map((_, at) => (goTo(at), byId('sentence').offsetHeight / parseFloat(getComputedStyle(byId('sentence')).lineHeight)))")
         faults += [] if max(lines) < 2.3 else ["the sentence has %s lines" % lines]
@@ -316,7 +316,7 @@ def exercises_row(bench, folder):
     press(bench, "#way-back [data-save=exercise]")
     faults = differs("asked there", bench.value("[byId('exercise-form').checkVisibility(), byId('exercise-said').value]"), [True, "Can both loads read 0, past the fences?"])
     bench.value("addToList(); loadText('false-sharing.litmus'); addToList()")
-    faults += differs("names", bench.value("taught.list.map(({ name }) => name)"), ["Store buffering: the test", "Store buffering with fences: why", "False sharing: the run"])
+    faults += differs("names", bench.value("taught.list.map(({ name }) => name)"), ["Store buffering: the run", "Store buffering with fences: why", "False sharing: the run"])
     name, text = saved_page(bench, "saveExercises()")
     path = os.path.join(folder, "exercises.html")
     with open(path, "w") as file:

@@ -17,7 +17,8 @@ def guided_row(bench):
     press(bench, "[data-choice='1s']")
     told = bench.value("[drive.words, byId('lesson-after').textContent, byId('sentence').textContent, byId('stepper').getClientRects().length]")
     faults += differs("another choice, in the lesson's box", told, [["1s"], "You may go your own way. " + bench.value("drawn.panels[0].sentences.join(' ')"), "", 0])
-    faults += differs("the way back", bench.text("#lesson-back"), "Back to the lesson\u2019s place")
+    faults += differs("the way back", bench.text("#lesson-back"), "Back to the lesson's place")
+    faults += differs("no Next there", bench.value("byId('lesson-next').hidden"), True)
     press(bench, "#lesson-back")
     faults += differs("back", bench.value("[lesson.at, lesson.isDone, drive.words, byId('lesson-back').textContent]"), [2, False, [], "Back"])
     press(bench, "[data-choice='0s']")
@@ -55,15 +56,18 @@ FOCUS = "(({ id, dataset, textContent }) => id || dataset.choice || dataset.edge
 
 def focus_row(bench):
     """In a lesson the focus is always at what goes on: at the question after a refused key, at the awaited choice after an answer, at Next after what a
-    step shows, and at a part's end on what was learned. Digits answer, and Enter leads to the answers. The last arrow of a cycle keeps the focus."""
+    step shows, and at a part's end on what was learned. Digits answer, themselves where all answers are digits; arrows lead to the answers, and Enter does nothing before. The last arrow of a cycle keeps the focus."""
     bench.open_fresh()
     press(bench, "#first-lesson")
     bench.value("document.activeElement.click()")
     faults = differs("at a question", bench.value(FOCUS), "lesson-said")
     bench.key_choice("0s")
     faults += differs("after a refused key", bench.value("[%s, drive.count]" % FOCUS), ["lesson-said", 0])
-    bench.value("document.activeElement.dispatchEvent(new KeyboardEvent('keydown', { key: 'Enter', bubbles: true }))")
-    faults += differs("after Enter", bench.value("document.activeElement.dataset.answer"), "Yes")
+    press_key = "document.activeElement.dispatchEvent(new KeyboardEvent('keydown', { key: '%s', bubbles: true }))"
+    bench.value(press_key % "Enter")
+    faults += differs("after Enter", bench.value("[%s, lesson.isDone]" % FOCUS), ["lesson-said", False])
+    bench.value(press_key % "ArrowRight")
+    faults += differs("after an arrow", bench.value("document.activeElement.dataset.answer"), "Yes")
     bench.press("2")
     faults += differs("after the key 2", bench.value("[%s, lesson.answer]" % FOCUS), ["0s", "No"])
     bench.value("enterStep(12)")
@@ -71,7 +75,9 @@ def focus_row(bench):
     bench.wait("!bench.task && document.querySelector('.states-sheet')")
     faults += differs("after all outcomes", bench.value("[%s, document.querySelector('[data-show]').matches('.main')]" % FOCUS), ["lesson-next", False])
     bench.value("enterStep(4)")
-    press(bench, "[data-answer='1']")
+    faults += differs("the keys", bench.value("[...document.querySelectorAll('[data-answer]')].map(each => [each.getAttribute('aria-keyshortcuts'), each.textContent])"), [["0", "0"], ["1", "1"]])
+    bench.press("1")
+    faults += differs("the digit itself", bench.value("lesson.answer"), "1")
     outlined = "[...document.querySelectorAll('[data-answer]')].map(each => getComputedStyle(each).outlineStyle)"
     faults += differs("the right answer is outlined after a wrong one", bench.value(outlined), ["solid", "none"])
     bench.value("enterStep(13)")
@@ -80,7 +86,7 @@ def focus_row(bench):
     faults += differs("at a part's end", bench.value("[%s, drive.isOn]" % FOCUS), ["lesson-said", False])
     faults += differs("Next names the part", bench.text("#lesson-next"), "Next: What does a core see of its own stores?")
     places = [bench.value("enterStep(%d), [byId('lesson-place').textContent, byId('lesson-bar').value, byId('lesson-bar').max]" % at) for at in (14, 15)]
-    faults += differs("parts", places, [["Part 1 of 2, step 15 of 15", 15, 15], ["Part 2 of 2, step 1 of 10", 1, 10]])
+    faults += differs("parts", places, [["Part 1 of 2, step 13 of 13", 13, 13], ["Part 2 of 2, step 1 of 7", 1, 7]])
     bench.value("beginLesson('fences'); enterStep(12)")
     press(bench, "[data-show]")
     bench.wait("!bench.task && document.querySelector('.cycle')")

@@ -12,6 +12,8 @@ CLICKED = "document.body.dispatchEvent(new KeyboardEvent('keydown', { key: '%s',
 
 KINDS = ["Store buffering: the run", "Message passing: the run", "IRIW: the run"]
 
+KEPT = " A reload keeps this list; “Save as a page” keeps it in a file."
+
 
 def at_its_end(bench):
     """A clicker that goes on opens a run before its first choice, and one that goes back at its end."""
@@ -68,11 +70,11 @@ def clicker_row(bench):
     """The foot says what a clicker's key does next: where no choice is known and at a run's end it leads to the next test, and so it does from
     a cycle's end and a sheet's."""
     bench.open_fresh()
-    bench.value("addToList(); loadText('MP.litmus'); addToList(); askWhy()")
+    bench.value("addToList(); taught.list[0].address = taught.list[0].address.replace(/&choices=[^&]*/, ''); loadText('MP.litmus'); addToList(); askWhy()")
     bench.wait("!bench.task && document.querySelector('.cycle')")
     press(bench, "#way-back [data-add-to-list]")
-    faults = differs("a sheet of the list", bench.text("#way-back .listed"), "Added as 3: Message passing (why).")
-    bench.value("openListed(0); addToList(); findOutcomes()")
+    faults = differs("a sheet of the list", bench.text("#way-back .listed"), "Added as 3: Message passing (why)." + KEPT)
+    bench.value("openListed(0); findOutcomes()")
     bench.wait("!bench.task && document.querySelector('.states-sheet')")
     bench.value("openListed(2); putLecture(true)")
     bench.wait("!bench.task && document.querySelector('.cycle')")
@@ -86,7 +88,7 @@ def clicker_row(bench):
     bench.value("openListed(0)")
     for choice in "0s 1s 0s 1s 0d 1d".split():
         press(bench, "[data-choice='%s']" % choice)
-    faults += differs("the next", bench.value("byId('list-bar').lastElementChild.textContent"), "Message passing ▶")
+    faults += differs("the next", bench.value("byId('list-bar').lastElementChild.textContent"), "Message passing: run ▶")
     bench.value(CLICKED % "PageDown")
     faults += differs("the next", bench.value("testName()"), "MP")
     bench.value("putLecture(false)")
@@ -95,7 +97,7 @@ def clicker_row(bench):
 
 def updated(bench):
     """What is shown takes the place of its entry, and a note goes with what it is of."""
-    press(bench, "[data-choice='0s']")
+    press(bench, "[data-choice='1s']")
     bench.wait("!document.querySelector('#saves [data-update-list]').hidden")
     faults = differs("the note of what was added", bench.text("#listed"), "") + differs("offered", bench.text("#saves [data-update-list]"), "Update 1 of 1")
     press(bench, "#saves [data-update-list]")
@@ -148,15 +150,15 @@ def kept_list_row(bench):
     """A list says what was added, takes no test twice, and outlives a reload; what stands beside the machine belongs to its test; and a saved page is named."""
     bench.open_fresh()
     press(bench, "#add-to-list")
-    faults = differs("added", bench.text("#listed"), "Added as 1: Store buffering (the test).")
+    faults = differs("added", bench.text("#listed"), "Added as 1: Store buffering (the run)." + KEPT)
     press(bench, "#add-to-list")
-    faults += differs("twice", [bench.text("#listed"), bench.value("taught.list.length")], ["It is there already, as 1: Store buffering (the test).", 1])
-    faults += differs("the list in sight", [is_in_sight(bench, "#saves #list-said"), bench.text("#list-said")], [True, "List: 1 Store buffering (the test)"])
+    faults += differs("twice", [bench.text("#listed"), bench.value("taught.list.length")], ["It is there already, as 1: Store buffering (the run)." + KEPT, 1])
+    faults += differs("the list in sight", [is_in_sight(bench, "#saves #list-said"), bench.text("#list-said")], [True, "List: 1 Store buffering (the run)"])
     faults += updated(bench)
     bench.value("putBeside(JSON.stringify(ABREAST)); takeFromLibrary('MP.litmus')")
     faults += differs("beside the next test", bench.value("[drive.beside, drive.histories.length]"), [None, 1])
     press(bench, "#add-to-list")
-    faults += differs("added", bench.text("#listed"), "Added as 2: Message passing (the run).")
+    faults += differs("added", bench.text("#listed"), "Added as 2: Message passing (the run)." + KEPT)
     bench.value("new Promise(done => setTimeout(done, 300))")
     bench.window.reload()
     bench.value(READY)
@@ -186,8 +188,8 @@ def both_ways_row(bench):
     bench.wait("!bench.task && document.querySelector('.cycle')")
     bench.value("addToList(); openListed(0); makeChoice('0s'); addToList(); putLecture(true); openListed(3)")
     faults = []
-    for where, ready in (([2, 4, None], "document.querySelector('.cycle')"), ([2, 3, None], "true"), ([2, 2, None], "true"), ([2, 1, None], "true"),
-                         ([1, None, None], "document.querySelector('.states-sheet')"), ([0, None, 0], "drive.isOn"), ([0, None, 0], "true")):
+    for where, ready in (([2, 4, None], "document.querySelector('.cycle')"), ([2, 3, None], "true"), ([2, 2, None], "true"), ([2, 1, None], "true"), ([2, 0, None], "true"),
+                         ([1, None, None], "document.querySelector('.states-sheet')"), ([0, None, 6], "drive.isOn"), ([0, None, 5], "true")):
         bench.value(CLICKED % "PageUp")
         bench.wait("!bench.task && " + ready)
         faults += differs("after PageUp", bench.value(WHERE), where)
@@ -307,7 +309,8 @@ def untold_row(bench):
     faults = differs("the bar and the question", bar, ["Store buffering with fences \u25b6", "Can both loads read 0?", True])
     bench.value("openListed(1)")
     bench.wait("!bench.task && document.querySelector('.cycle')")
-    faults += differs("at the first arrow", bench.value(EARLY), ["hidden", "hidden", "visible"])
+    faults += differs("before the first arrow", bench.value("[playlist.where, getComputedStyle(document.querySelector('[data-edge]')).visibility]"), ["PageDown: arrow 1 of 4", "hidden"])
+    faults += differs("the answer", bench.value(EARLY), ["hidden", "hidden", "visible"])
     bench.value("sheet.cycle.move('all')")
     faults += differs("at the last", bench.value(EARLY), ["visible"] * 3)
     faults += differs("no Tab leads to what is off", bench.value("[...document.querySelectorAll('[data-edges]')].map(each => each.tabIndex)"), [0, 0, -1, -1])
@@ -323,7 +326,7 @@ def written_row(bench):
     faults = differs("marked", [bench.value(marks % count) for count in (2, 3, 4, 5)], [[0, 0], [1, 0], [0, 1], [0, 0]])
     bench.value("loadText('false-sharing.litmus'); putBeside(JSON.stringify(ABREAST)); goTo(7)")
     told = bench.value("['#programs code.changed', '#programs .changed.word', '.machine h3'].map(each => [...document.querySelectorAll(each)].map(each => each.textContent))")
-    return faults + differs("abreast", told, [["MOV EAX,[y]"], ["EAX=1"], ["MSI", "MESI, as MSI so far", "MOESI", "MOSI"]]) + safety(bench)
+    return faults + differs("abreast", told, [["MOV EAX,[y]"], ["EAX (r1)=1"], ["MSI", "MESI, as MSI so far", "MOESI", "MOSI"]]) + safety(bench)
 
 
 def rows(page, folder):

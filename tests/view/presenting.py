@@ -33,7 +33,7 @@ def lecture_hall_row(bench, folder):
     for key in ("PageDown", "PageDown", "PageUp"):
         bench.value(CLICKED % key)
         shown.append(bench.value("sheet.cycle.shown"))
-    faults += differs("edges", shown, [1, 2, 3, 2])
+    faults += differs("edges", shown, [0, 1, 2, 1])
     room = bench.value("(({ width, right, bottom }, tree) => [width > 1100, right <= innerWidth, bottom <= innerHeight, tree.getBoundingClientRect().top >= bottom])"
                        "(document.querySelector('.cycle figure').getBoundingClientRect(), document.querySelector('.tree'))")
     faults += differs("the cycle is large, with its low tree below it", room, [True] * 4)
@@ -62,7 +62,7 @@ def lecture_fits_row(bench, folder):
         faults += bench.value(OVERHANGING)
         bench.window.screenshot(os.path.join(folder, "lecture-sharing-%d.png" % names), whole=False)
     sizes = bench.value("[...document.querySelectorAll('.cache td, .cache th, .bus .word, .memory .word')].map(each => parseFloat(getComputedStyle(each).fontSize))")
-    faults += [] if min(sizes) >= 26 else ["words of caches have a size of %s" % min(sizes)]
+    faults += [] if min(sizes) >= 24 else ["words of caches have a size of %s" % min(sizes)]
     counted = bench.value("[firstHistory().steps.filter(({ access }) => access === 'miss').length, document.querySelector('.tally').innerText.replace(/\\s/g, ' ')]")
     faults += [] if counted[1].startswith("so far %d miss" % counted[0]) else ["of %d misses it says %s" % tuple(counted)]
     bench.value("putLecture(false)")
@@ -140,13 +140,13 @@ def exercise_row(bench, folder):
     bench.wait("location.hash.includes('thought=cannot')")
     faults += differs("after it", bench.value(in_sight), [True, True, True, True])
     bench.value("byId('test-part').open = false; scrollTo(0, 0)")
-    faults += differs("the answer", bench.text("#exercise-thought").startswith("You said: it can’t be."), True)
+    faults += differs("the answer", bench.text("#exercise-thought").startswith("You said: it can't be."), True)
     faults += differs("the focus stays, and nothing moves", bench.value("[document.activeElement.dataset.thought, scrollY]"), ["cannot", 0])
     bench.window.requests.clear()
     return faults + judged_exercise(bench) + safety(bench)
 
 
-JUDGED = {"can": ("You said it can be, and so it is.", "You said: it can be. It can’t."), "cannot": ("You said: it can’t be. It can.", "You said it can’t be, and so it is.")}
+JUDGED = {"can": ("You said it can be, and so it is.", "You said: it can be. It can't."), "cannot": ("You said: it can't be. It can.", "You said it can't be, and so it is.")}
 
 
 def judged_exercise(bench):
@@ -181,7 +181,7 @@ def taken_row(bench):
         found.append(bench.value("byId('sentence').textContent"))
         bench.value("goTo(2)")
         faults += [] if "invalid" not in bench.text("#sentence") else ["too early: " + bench.text("#sentence")]
-    return faults + [said for said in found if not said.endswith(" GetM x+y went on the bus. P0's copy of x+y became invalid.")] + safety(bench)
+    return faults + [said for said in found if not said.endswith(" GetM x, y went on the bus. P0's copy of x, y became invalid.")] + safety(bench)
 
 
 def pointer_row(bench):
@@ -237,11 +237,11 @@ def abreast_row(bench, folder):
     faults = differs("found by the word", found, ["false-sharing.litmus"])
     bench.value("loadText('false-sharing.litmus'); putBeside(JSON.stringify(ABREAST)); goTo(7)")
     faults += differs("machines", bench.value("[...document.querySelectorAll('.machine')].map(each => each.querySelector('h3').textContent.split(',')[0])"), ["MSI", "MESI", "MOESI", "MOSI"])
-    tops = bench.value("[...new Set([...document.querySelectorAll('.machine')].map(each => Math.round(each.getBoundingClientRect().top)))].length")
-    faults += differs("in one row", tops, 1)
+    faults += differs("in one row", bench.value("[...new Set([...document.querySelectorAll('.machine')].map(each => Math.round(each.getBoundingClientRect().top)))].length"), 1)
     marks = bench.value("[...document.querySelectorAll('.machine')].map(each => [each.querySelectorAll('.cache .differs').length, each.querySelector('.memory').matches('.differs')])")
     faults += differs("marked", marks, [[0, False], [0, False], [1, True], [1, True]])
     faults += [] if "Done. Under MSI: 4 misses, " in bench.text("#task-after") else ["the task says " + bench.text("#task-after")]
+    faults += differs("why at the end, and of which", [bench.text("#sentence").split(":")[0], bench.text("#sentence").rsplit(". ", 1)[1]], ["1s under MSI and MESI", "4 of 4 accesses missed: x and y share a line, which 3 of them took from the other core."])
     bench.window.screenshot(os.path.join(folder, "abreast.png"))
     return faults + bench.value(OVERHANGING) + safety(bench)
 

@@ -295,19 +295,25 @@ LISTING = "f():\n  push rbp\n  mov rbp, rsp\n  mov DWORD PTR x[rip], 1  # x\n  l
 LISTED = "X86 pasted\n{ }\n P0          | P1         ;\n MOV [x],$1  | MOV [y],$1 ;\n MFENCE      |            ;\n MOV EBX,[y] |            ;\n MOV EAX,[y] |            ;\n"
 FOREIGN = "X86 foreign\n{ }\n P0 | P1 ;\n MOV EAX,[x] | MOV R8D,[x] ;\n MOV R8D,[y] | MOV EAX,[y] ;\n MOV [x],R8D | MOV EBX,[y] ;\nexists (0:R8D=1 /\\ 1:R8D=1)\n"
 RENAMED = "X86 foreign\n{ }\n P0          | P1          ;\n MOV EAX,[x] | MOV ECX,[x] ;\n MOV EBX,[y] | MOV EAX,[y] ;\n MOV [x],EBX | MOV EBX,[y] ;\nexists (0:EBX=1 /\\ 1:ECX=1)\n"
+GCC = '\t.file\t"a.c"\n\t.text\nf:\n.LFB0:\n\t.cfi_startproc\n\tmovl\t$1, x(%rip)\n\tmovl\ty(%rip), %eax\n\tret\n.LFE0:\n\t.size\tf, .-f\ng:\n\tmovl\t$1, y(%rip)\n\tlock orq\t$0, (%rsp)\n\tret\n\t.data\ny:\n\t.long\t5\n'
+FROM_GCC = "X86 pasted\n{ y=5; }\n P0          | P1         ;\n MOV [x],$1  | MOV [y],$1 ;\n MOV EAX,[y] | MFENCE     ;\n"
+DIY = "X86_64 SB\n{\nuint64_t x; uint64_t 0:rax;\nuint64_t 1:rbx=1;\n}\n P0 | P1 ;\n movq $1,(x) | movq $1,(y) ;\n movq (y),%rax | movl (x),%r8d ;\nexists (0:rax=0 && 1:r8==0)\n"
+FROM_DIY = "X86 SB\n{\n1:EBX=1;\n}\n P0          | P1          ;\n MOV [x],$1  | MOV [y],$1  ;\n MOV EAX,[y] | MOV EAX,[x] ;\nexists (0:EAX=0 /\\ 1:EAX=0)\n"
 
 
 def listing_row(bench):
-    """A compiler's listing becomes a test by one press, and a register that isn't read here one that its core doesn't use, in the condition too. It says what became of them."""
+    """A compiler's listing becomes a test by one press, and a raw file of an assembler, and a test of X86_64 one of X86; and a register that isn't read here one that its core
+    doesn't use, in the condition too. It says what became of them, each kind of change once."""
     faults = []
-    for text, name, written, said in ((LISTING, "Write it as a test", LISTED, "a test of 2 cores"), (FOREIGN, "Write it so", RENAMED, "P1: R8D became ECX; P0: R8D became EBX")):
+    for text, name, written, said in ((LISTING, "Write it as a test", LISTED, "a test of 2 cores"), (GCC, "Write it as a test", FROM_GCC, "a test of 2 cores; line 5: lock orq $0, (%rsp) became MFENCE"),
+                                      (FOREIGN, "Write it so", RENAMED, "P1: R8D became ECX; P0: R8D became EBX"), (DIY, "Write it so", FROM_DIY, "X86_64 became X86, with registers of 32 bits")):
         bench.open_fresh()
         bench.fill("test", text)
         faults += differs("offered", bench.value("[byId('write-so').hidden, byId('write-so').textContent]"), [False, name])
         press(bench, "#write-so")
         faults += differs("written", bench.value("byId('test').value"), written)
         faults += [] if said in bench.text(".writing .noticed") else ["it says " + bench.text(".writing .noticed")]
-    faults += differs("with a jump", bench.value("listingAsTest('f:\\n mov eax, x\\n.L2:\\n')"), None)
+    faults += differs("with a jump", bench.value("listingAsTest('f:\\n mov eax, x\\n jne .L2\\n.L2:\\n')"), None)
     return faults + safety(bench)
 
 
@@ -323,6 +329,9 @@ def certain_row(bench):
             ("MFENCE | jnz a ;", "jnz isn't read: leave it out; write the one way that is taken", None)):
         faults += differs("of " + line, bench.value("repaired(%s, %s)?.text ?? null" % (json.dumps(line), json.dumps("hint: line 1: %s\n" % hint))), meant)
     aligned = bench.value("aligned('X86 a\\n{ x=0; }\\nP0|P1;\\nMFENCE|MOV EAX,[x];\\nexists (x=0)\\n')")
+    faults += differs("changed", bench.value("changesSaid([{ line: 4, said: 'a' }, { line: 6, said: 'a' }, { said: 'b', isOther: true }])"), "b; lines 4 and 6: a. Undo takes all back. ")
+    signs = bench.value("repaired('exists (x==0 && y==1)', \"hint: line 1: '=': in a condition\").said")
+    faults += differs("signs", signs, "== became =, && became /\\")
     return faults + differs("aligned", aligned, "X86 a\n{ x=0; }\n P0     | P1          ;\n MFENCE | MOV EAX,[x] ;\nexists (x=0)\n")
 
 

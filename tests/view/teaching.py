@@ -65,9 +65,9 @@ def plain_row(bench):
         said = bench.text("#sentence") + bench.value("byId('machines').innerText + byId('at-end').innerText")
         faults += ["after %s it speaks of %s" % (choice, found) for found in OF_CACHES.findall(said)]
     faults += differs("memory", bench.text(".memory"), "x=1y=1")
-    faults += differs("registers", bench.value("[...document.querySelectorAll('.registers')].map(each => each.textContent)"), ["EAX=0", "EAX=0"])
+    faults += differs("registers", bench.value("[...document.querySelectorAll('.registers')].map(each => each.textContent)"), ["EAX (r0)=0", "EAX (r1)=0"])
     press(bench, "#caches")
-    faults += [] if "cache has the word, and memory itself still has the old one" in bench.text("#sentence") else ["with caches it says " + bench.text("#sentence")]
+    faults += [] if "cache has the word, memory still the old one" in bench.text("#sentence") else ["with caches it says " + bench.text("#sentence")]
     faults += differs("memory with caches", bench.text(".memory"), "x=0 newest 1y=0 newest 1")
     bench.wait("location.hash.includes('caches=1')")
     bench.window.reload()
@@ -263,7 +263,7 @@ def done_by_answer_row(bench):
         bench.value(ask)
         bench.wait("!bench.task && document.querySelector('%s')" % shown)
         bench.value("backToRun()")
-        faults += differs("the task", bench.text("#task"), "Make both loads read 0, past the fences. It can’t be done: no run ends so.")
+        faults += differs("the task", bench.text("#task"), "Make both loads read 0, past the fences. It can't be done: no run ends so.")
     bench.open_fresh()
     bench.value("findOutcomes()")
     bench.wait("!bench.task && document.querySelector('.states-sheet')")

@@ -98,7 +98,7 @@ def brief_row(bench):
     """An answer that is asked for beside the test says its first sentence there, and the test stays in sight; a button leads to the answer."""
     bench.open_fresh()
     bench.value("byId('test-part').open = true; putCommand('why'); scrollTo(0, 0); answerNow()")
-    faults = differs("what the command answers", bench.text("#command-said"), "Why the end that is asked for can’t be, or how it can.")
+    faults = differs("what the command answers", bench.text("#command-said"), "Why the end that is asked for can't be, or how it can.")
     bench.value("byId('begin').focus()")
     press(bench, "#begin")
     bench.wait("!bench.task && document.querySelector('.reason')")
@@ -193,6 +193,9 @@ def unfinished_row(bench):
     for act in ("", "showMet({ status: Tso.STATUS.unended, text: %s, hint: '' }, 32); " % json.dumps(json.dumps(met))):
         faults += differs("at its limit nothing is said of never", bench.value(act + "/never/i.test(byId('states').textContent)"), False)
     faults += differs("what was met", bench.value(ROWS_MET), ["0", "1"])
+    told = bench.value("possible.refuted = inputOf('why'), [waysOn('outcomes', { isStopped: true, met: 2, among: 5 }).textContent, document.querySelector('#states > .is-open') !== null]")
+    faults += differs("where why has answered", told[0].startswith("Show what was met 2 outcomes, among the first 5 states. Later ones weren't told yet.Show it “Why” has shown that no run ends as"), True)
+    faults += differs("a sign of what is open", told[1], True)
     bench.open_fresh()
     bench.fill("test", read(EXAMPLES, "algorithms", "SEQLOCK.litmus"))
     bench.value("settingOf('cases').value = 1; askWhy()")
