@@ -108,7 +108,7 @@ function refuseStall({ histories: [history], count }, word) {
   markKeyed(false);
   for (const panel of drawn.panels) panel.offerStall(word);
   const said = `${why} So ${word} does nothing.`;
-  if (lesson.told === null) sayOfDriving(`${said} “stall” makes it all the same.`);
+  if (lesson.told === null) sayOfDriving(`${said} “stall” makes it anyway.`);
   else sayInLesson(said);
 }
 

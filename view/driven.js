@@ -7,6 +7,7 @@ function showDrive() {
   const history = firstHistory(), { count } = drive, isPlain = !putCaches();
   drawn.panels.forEach((panel, at) => panel.show(drive.histories[at], count, isPlain));
   markKeyed(false);
+  byId('run').classList.toggle('fresh', count === 0);
   showPicture();
   const step = history.steps[count - 1];
   const before = step && history.machineAfter(count - 1);

@@ -334,6 +334,7 @@ function focusStep() {
 function answerByKey(key) {
   const { answers } = stepNow(), answer = answers.find((_, at) => keyOf(answers, at) === key), way = { ArrowRight: 1, ArrowLeft: -1 }[key];
   const buttons = [...byId('lesson-answers').children], at = buttons.indexOf(document.activeElement);
+  if (answer !== undefined && /^[0-7]$/.test(key)) putDrive({ core: Number(key) }); // a choice may be typed as it is written
   if (answer !== undefined) answerLesson(answer);
   else if (way) buttons[Math.min(Math.max(0, at + way), buttons.length - 1)].focus();
   return answer !== undefined || way !== undefined;

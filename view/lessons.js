@@ -47,7 +47,7 @@ const LESSONS = [{
     { do: '1s', say: 'P1\'s fence.', then: 'P1 may load now.' },
     { do: '1s', say: 'And its load.', then: 'P1 read x=1. This run does not end with two zeros.' },
     { show: 'why', say: 'Can it never be? One run can\'t tell. Press “Why can or can\'t it be?”: proved code looks at every case.' },
-    { say: 'It can never be. Each load would come before the other core\'s store, since it read the older value (fr, from read). Each store comes before its own core\'s load, since a fence stands between (mfence). The arrows of the cycle tell it one by one, from “First arrow” on.' },
+    { say: 'It can never be. Each load would come before the other core\'s store, since it read the older value (fr, from read). Each store comes before its own core\'s load, since a fence stands between (mfence). The arrows of the cycle tell it one by one: press “Next arrow”.' },
     { say: 'What you can say now\n• With a fence between store and load on both cores, one load at least reads 1.\n• The reason is a cycle: else a store would come before itself in memory order.' },
     { test: 'X86 SB1F\n{ x=0; y=0; }\n P0          | P1          ;\n MOV [x],$1  | MOV [y],$1  ;\n MFENCE      | MOV EAX,[x] ;\n MOV EAX,[y] |             ;\nexists (0:EAX=0 /\\ 1:EAX=0)\n', title: 'Is one fence enough?', ask: 'Now only P0 has a fence. Can both loads read 0 again?', answers: ['Yes', 'No'], right: 'Yes', because: 'One load that passes its store is enough. We try it.' },
     { do: '1s', say: 'P1\'s store.', then: 'The store waits in P1\'s buffer.' },
