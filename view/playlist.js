@@ -40,7 +40,7 @@ function addToList() {
   playlist.at = isThere ? at : taught.list.length - 1;
   drawList();
   const unstepped = isUnstepped() ? ' No choices: PageDown goes to the next test.' : '';
-  sayListed(`${isThere ? 'It is there already, as' : 'Added as'} ${playlist.at + 1}: ${shortName(one)}.${unstepped} A reload keeps this list; “Save as a page” keeps it in a file.`);
+  sayListed(`${isThere ? 'It is there already, as' : 'Added as'} ${playlist.at + 1}: ${shortName(one)}.${unstepped} The list goes when the page is closed: “Save as a page” keeps it in a file.`);
 }
 
 function updateListed() {

@@ -12,7 +12,7 @@ CLICKED = "document.body.dispatchEvent(new KeyboardEvent('keydown', { key: '%s',
 
 KINDS = ["Store buffering: the run", "Message passing: the run", "IRIW: the run"]
 
-KEPT = " A reload keeps this list; “Save as a page” keeps it in a file."
+KEPT = " The list goes when the page is closed: “Save as a page” keeps it in a file."
 
 
 def at_its_end(bench):
