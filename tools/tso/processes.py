@@ -64,6 +64,9 @@ BLOCK = 2 ** 16
 # A program that has closed its streams is about to end: it is looked at after so many seconds, then after twice as many, up to the most.
 SOON, MOST_APART = 0.0002, 0.05
 
+# So many seconds it waits at a time: Python hears of a signal that came just before a wait only after it.
+LONGEST = 1
+
 
 class Talk:
     """A program that runs: what is left of its input, what it has printed, and when its time is over. `mark` is whose it is."""
@@ -145,8 +148,8 @@ class AtOnce:
         """Feeds and hears the programs that are ready for it. Where none is, it waits for one, no longer than until one is to be looked at."""
         times = [talk.over - time.monotonic() for talk in self.talks if talk.over is not None]
         times += [self.apart] * any(not talk.streams for talk in self.talks)
-        times = times if waits else [0]
-        for key, _ in self.selector.select(max(0, min(times)) if times else None):
+        times = [*times, LONGEST] if waits else [0]
+        for key, _ in self.selector.select(max(0, min(times))):
             self.go_on(key.data, key.fileobj)
 
     def go_on(self, talk, stream):
