@@ -42,7 +42,7 @@ function valueIn(script, name) {
 
 /** The bytes of a module, from its own file or from a script that has it packed. */
 function bytesOf(file) {
-  return file.endsWith('.js') ? zlib.gunzipSync(Buffer.from(valueIn(file, 'MODULE').packed, 'base64')) : fs.readFileSync(file);
+  return file.endsWith('.js') ? zlib.gunzipSync(valueIn(path.join(TOP, 'view', 'packed.js'), 'bytesIn')(valueIn(file, 'MODULE').packed)) : fs.readFileSync(file);
 }
 
 /** A command line that is refused. */

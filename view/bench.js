@@ -12,17 +12,6 @@ const bench = { tso: null, bytes: null, task: null, answer: null, tracing: null,
 
 const LONG = ['outcomes', 'sweep', 'counts', 'why'];
 
-/** The bytes that were packed by gzip and are a text in base64. */
-async function unpacked(text) {
-  const letters = atob(text), packed = new Uint8Array(letters.length);
-  for (let at = 0; at < letters.length; at++) packed[at] = letters.charCodeAt(at);
-  const bytes = new Blob([packed]).stream().pipeThrough(new DecompressionStream('gzip'));
-  return new Uint8Array(await new Response(bytes).arrayBuffer());
-}
-
-/** The value of a text of JSON that was packed so. */
-const openedJson = async text => JSON.parse(new TextDecoder().decode(await unpacked(text)));
-
 /** The test's name, as its first line has it. */
 const testName = () => /^X86[ \t]+(.*)/.exec(byId('test').value)?.[1].trim() ?? 'test';
 
@@ -203,7 +192,7 @@ const isAskedBeside = () => byId('test-part').open && byId('test-part').contains
 /** Of an answer that was asked for from the test, or beside it: says the first sentence there, so that the test stays in sight. Answers whether it did. */
 function saidInBrief() {
   const said = byId('states').querySelector('[role=status] strong')?.textContent ?? '';
-  const isBeside = isAskedBeside() && (working.asker === byId('test') || byId('library').offsetTop < byId('told').offsetTop);
+  const isBeside = isAskedBeside() && (working.asker === byId('test') || byId('commands').offsetTop < byId('told').offsetTop);
   byId('brief').hidden = !isBeside || said === '';
   putText(byId('brief-said'), byId('brief').hidden ? '' : said);
   return !byId('brief').hidden;
@@ -301,7 +290,7 @@ function loadChoices(choices, found) {
   answerNow();
   byId('states').replaceChildren(...sheet);
   markShownState(choices);
-  byId('stepper').scrollIntoView({ block: 'nearest' });
+  byId('stepper').scrollIntoView({ block: byId('test-part').open ? 'start' : 'nearest' });
   focusMachine();
 }
 

@@ -46,7 +46,7 @@ function putBeside(text) {
 const programLines = (programs, marks = () => '', after = () => []) => programs.map((program, core) => html('span', {}, html('strong', {}, `P${core}`), ' ',
   ...program.map((text, at) => html('code', { class: marks(core, at) }, text)), ...after(core)));
 
-/** Where machines stand abreast: the programs and registers, once for all of them, with each next instruction and the last one marked. */
+/** Where machines stand abreast: programs and registers, once for all, with each next instruction and the last one marked. */
 function showPrograms() {
   const history = firstHistory(), { count } = drive, isAbreast = drive.histories.length > 2;
   byId('programs').hidden = !isAbreast;

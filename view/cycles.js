@@ -96,12 +96,12 @@ const MANY_CORES = 4; // with more than these, cores without an edge are left ou
 const FITTED = { letters: 9, above: 120 }; // of a picture that fits the screen
 const isTooLarge = ({ dataset: { least, high } }) => Number(least) > innerWidth - AROUND || Number(high) > innerHeight - FITTED.above;
 const fitsWell = figure => isTooLarge(figure) && CHIP_LETTERS * Number(figure.dataset.fit) >= FITTED.letters;
-const MANY_EDGES = 20; // with more than these, an execution is drawn with the edges at what its condition names
+const MANY_EDGES = 20; // with more than these, an execution is drawn with the edges at what its condition names, or those that are picked
 
-/** The cores that are drawn: of many those that have an event, unless all are wanted. */
-function drawnCores(programs, edges, isAll) {
+/** The cores that are drawn: of many those that have an event. */
+function drawnCores(programs, edges) {
   const cores = programs.map((_, core) => core), used = new Set(eventsOf(edges).map(({ core }) => core));
-  return isAll || programs.length <= MANY_CORES ? cores : cores.filter(core => used.has(core));
+  return programs.length <= MANY_CORES ? cores : cores.filter(core => used.has(core));
 }
 
 /** An event's text with its lane in the place of its core. */
@@ -120,7 +120,8 @@ function narrowDrawing(programs, edges, best = null, added = 0) {
   return better.cost === 0 || added === NARROW.most ? better : narrowDrawing(programs, edges, better, added + NARROW.step);
 }
 
-const GROWN = { most: 1.8, width: 0.48, height: 0.6, taught: 0.3 };
+const GROWN = { most: 1.8, width: 0.6, height: 0.6, taught: 0.3 };
+const FEW_BESIDE = 8; // arrows whose list has the legend beside it
 
 /** By how much a picture is larger where the window has room for it. */
 function grownBy({ width, height }) {
@@ -129,8 +130,8 @@ function grownBy({ width, height }) {
 }
 
 /** Edges over programs, as a figure of this name, made smaller where there is less room, and at last scrolled. */
-function drawEdges(programs, edges, name, isAll = false) {
-  const cores = drawnCores(programs, edges, isAll), shown = cores.map(core => programs[core]);
+function drawEdges(programs, edges, name) {
+  const cores = drawnCores(programs, edges), shown = cores.map(core => programs[core]);
   const laid = edges.map(edge => ({ ...edge, from: inLane(cores, edge.from), to: inLane(cores, edge.to) }));
   const wide = layOutEvents(shown, laid), isNarrow = wide.width * (cores.length > MANY_CORES ? NARROW.from : EVENTS.smaller) > innerWidth;
   const { layout, ways, chips } = isNarrow ? narrowDrawing(shown, laid) : drawingOf(wide, laid), used = usedRelations(edges);
@@ -142,7 +143,7 @@ function drawEdges(programs, edges, name, isAll = false) {
   picture.style.width = `max(100%, ${least}px)`;
   const fit = Math.min((innerWidth - AROUND) / layout.width, (innerHeight - FITTED.above) / layout.height);
   const figure = html('figure', { tabindex: 0, 'aria-label': name, class: isNarrow ? 'narrow' : '', 'data-least': least, 'data-fit': fit, 'data-high': layout.height * Math.min(1, Math.max(least, innerWidth - AROUND) / layout.width) }, picture);
-  figure.style.flex = `0 1 ${grownBy(layout) * layout.width}px`; // in a lecture it takes the whole width
+  figure.style = `--grown: ${grownBy(layout) * layout.width}px; --wide: ${layout.width}px`; // in a lecture it takes the whole width
   return figure;
 }
 
@@ -152,7 +153,7 @@ const chipOf = (relation, isNarrow) => html('span', { class: `relation edge-${re
 function relationList(edges, isNarrow, arrow) {
   const used = usedRelations(edges);
   const item = relation => html('li', {}, chipOf(relation, isNarrow), ` ${meaningOf(relation, edges)}`);
-  return html('ul', { class: 'small relations', 'aria-label': 'Relations' }, html('li', {}, `Arrow: ${arrow}must be before.`), ...used.map(item));
+  return html('ul', { class: 'small relations', 'aria-label': 'How to read the picture' }, html('li', { class: 'key' }, sheet.key), html('li', {}, `Arrow: ${arrow}must be before.`), ...used.map(item));
 }
 
 /** What a condition names: the last loads into its registers, and the last writes to its locations. */
@@ -170,37 +171,56 @@ const askedEdges = (edges, wanted) => [...new Set(wanted.flatMap(place => edges.
 
 /** A cycle or an execution as `panelOf` draws it, first what matters, with boxes that show all and fit the screen. */
 function drawExecution(programs, edges, few, panelOf) {
-  const isWhole = drawnCores(programs, few, false).length === programs.length, fit = html('input', { type: 'checkbox' });
-  const draw = (isAll, isAsked) => {
-    sheet.cycle = panelOf(isAll ? edges : few, isAll);
+  const isWhole = drawnCores(programs, few).length === programs.length, fit = html('input', { type: 'checkbox' });
+  let picked = null;
+  const draw = isAsked => {
+    sheet.cycle = panelOf(picked?.length > 0 ? picked : few, picked?.length > 0);
     if (!isAsked) fit.checked = fitsWell(sheet.cycle.picture);
     sheet.cycle.picture.classList.toggle('fits', fit.checked);
     return sheet.cycle.element;
   };
-  const isMany = few.length < edges.length, isLarge = isTooLarge(drawEdges(programs, edges, '', isMany));
-  if (!isMany && isWhole && !isLarge) return draw(true);
+  const isMany = few.length < edges.length, isLarge = isTooLarge(drawEdges(programs, edges, ''));
+  if (!isMany && isWhole && !isLarge) return draw();
   const left = isMany ? `Drawn are ${few.length} of ${edges.length} arrows, those at what is asked for.` : isWhole ? '' : 'Cores without an arrow are left out.';
-  const box = html('input', { type: 'checkbox' }), place = html('div', {}, draw(false));
-  const said = html('span', {}, left), label = (input, text) => html('label', {}, input, text);
-  const all = left === '' ? [] : isMany ? [said, label(box, ' Draw all')] : [said], fits = isLarge ? [label(fit, ' Fit the screen')] : [];
-  const words = html('p', { class: 'buttons small' }, ...all, ...fits);
-  words.addEventListener('change', ({ target }) => {
+  const place = html('div', {}, draw()), said = html('span', {}, left), picks = isMany ? pickButtons(edges) : [], fits = isLarge ? [html('label', {}, fit, ' Fit the screen')] : [];
+  const words = html('p', { class: 'buttons small' }, ...(left === '' ? [] : [said]), ...(isMany ? [html('span', {}, 'Pick others:')] : []), ...picks, ...fits);
+  const redraw = isAsked => place.replaceChildren(draw(isAsked));
+  words.addEventListener('change', () => {
     const { shown } = sheet.cycle;
-    place.replaceChildren(draw(box.checked, target === fit));
+    redraw(true);
     sheet.cycle.show(shown);
-    putText(said, box.checked ? `Drawn are all ${edges.length} arrows.` : left);
+  });
+  words.addEventListener('click', ({ target }) => {
+    if (!picks.includes(target)) return;
+    target.ariaPressed = String(target.ariaPressed !== 'true');
+    picked = pickedEdges(edges, picks);
+    redraw();
+    putText(said, picked === null ? left : `Drawn are ${picked.length} of ${edges.length} arrows, those at what is picked.`);
   });
   return html('div', { class: 'drawn-part' }, words, place);
 }
 
+/** A button for each core and each location of some edges, by which one picks those that are drawn; its value stands in their texts. */
+function pickButtons(edges) {
+  const events = eventsOf(edges), marks = [events.map(({ core }) => `P${core}:`), events.map(({ location }) => ` ${location}=`)].flatMap(each => each.sort());
+  return [...new Set(marks)].map(value => html('button', { type: 'button', class: 'pick', 'aria-pressed': 'false', value }, value.slice(0, -1).trim()));
+}
+
+/** The edges at the cores and at the locations whose buttons are pressed; null where none is. */
+function pickedEdges(edges, buttons) {
+  const marks = buttons.filter(each => each.ariaPressed === 'true').map(({ value }) => value), kinds = ['P', ' '].map(first => marks.filter(mark => mark[0] === first));
+  const isAtAny = ({ from, to }, kind) => kind.length === 0 || kind.some(mark => `${from}=${to}=`.includes(mark));
+  return marks.length === 0 ? null : edges.filter(edge => kinds.every(kind => isAtAny(edge, kind)));
+}
+
 /** A cycle, edge by edge; or an execution: its cycle, then each other edge alone, and at last all. */
 class CyclePanel {
-  /** `end`: what the cycle comes to; `closed`: how many edges are the cycle; `isAll`: whether all cores are drawn; `arrow`: when arrows hold. */
-  constructor(programs, cycle, { end, name = `A cycle of ${cycle.length} edges`, closed = cycle.length, isAll, arrow = '' }) {
-    const picture = drawEdges(programs, cycle, name, isAll), isNarrow = picture.matches('.narrow');
+  /** `end`: what the cycle comes to; `closed`: how many edges are the cycle; `arrow`: when arrows hold. */
+  constructor(programs, cycle, { end, name = `A cycle of ${cycle.length} edges`, closed = cycle.length, arrow = '' }) {
+    const picture = drawEdges(programs, cycle, name), isNarrow = picture.matches('.narrow');
     Object.assign(this, { cycle, closed, picture, isNarrow });
-    const place = html('div', { class: 'pictured-cycle' }, picture, relationList(cycle, isNarrow, arrow));
-    place.style.flex = picture.style.flex;
+    this.legend = relationList(cycle, isNarrow, arrow);
+    this.place = html('div', { class: 'pictured-cycle' }, picture);
     this.sentences = html('ol', { class: 'edges', 'aria-label': 'The edges, one after the other' },
       ...cycle.map((edge, at) => html('li', { tabindex: 0, 'data-arrow': at }, chipOf(edge.relation, isNarrow), ` ${edgeSentence(edge)}`)));
     this.end = html('p', {}, end);
@@ -209,8 +229,9 @@ class CyclePanel {
     this.buttons = Object.entries({ first: 'First arrow', back: 'Arrow back', next: 'Next arrow', all: 'All arrows' })
       .map(([name, text]) => html('button', { type: 'button', 'data-edges': name }, text));
     this.bar = html('div', { class: 'stepping' }, html('div', { class: 'buttons' }, ...this.buttons, this.count), this.said);
-    this.told = html('div', { class: 'told-edges' }, this.sentences, this.end);
-    this.element = html('div', { class: 'cycle' }, ...(cycle.length > 1 ? [this.bar] : []), html('div', { class: 'beside' }, place, this.told));
+    this.told = html('div', { class: cycle.length > FEW_BESIDE ? 'told-edges many' : 'told-edges' }, html('div', {}, this.sentences, this.end), this.legend);
+    this.element = html('div', { class: isNarrow ? 'cycle slim' : 'cycle' }, ...(cycle.length > 1 ? [this.bar] : []), this.place, this.told);
+    this.place.style = picture.style.cssText;
     new ResizeObserver(() => this.seeHeight()).observe(picture);
     for (const kind of ['pointerover', 'focusin']) this.element.addEventListener(kind, ({ target }) => this.point(target));
     this.element.addEventListener('pointerleave', () => this.point(document.activeElement));
@@ -253,9 +274,15 @@ class CyclePanel {
     if (this.least === 0 && (top < 0 || bottom > innerHeight)) scrollBy(0, this.picture.getBoundingClientRect().bottom - innerHeight + CLEAR);
   }
 
-  /** Notes whether the picture is higher than the window, and whether the list stands beside it, or too far below. */
+  /** Places the legend under the picture or under the list beside it, where the sheet is lower so. Notes whether the picture is higher than the
+   * window, and whether the list stands beside it, or too far below. */
   seeHeight() {
     const { offsetTop, offsetHeight } = this.picture, isTall = offsetHeight > innerHeight - this.bar.offsetHeight, isBeside = this.told.offsetTop < offsetTop + offsetHeight;
+    const columns = [this.place, this.told], ends = columns.map(column => {
+      column.append(this.legend);
+      return Math.max(...columns.map(each => each.getBoundingClientRect().bottom));
+    });
+    if (isBeside && (isTall || ends[0] < ends[1])) this.place.append(this.legend);
     this.element.classList.toggle('tall', isTall);
     this.element.classList.toggle('far-list', !isBeside && this.element.offsetHeight > innerHeight);
     this.told.classList.toggle('boxed', isTall && isBeside);
@@ -263,7 +290,7 @@ class CyclePanel {
 
   /** Scrolls the page to an arrow, and the list to its sentence. From then on the bar stays at the window's top. */
   scrollTo(at) {
-    const boxOf = part => part.getBoundingClientRect(), { height } = boxOf(this.bar), item = this.sentences.children[at], least = boxOf(this.element).top;
+    const boxOf = part => part.getBoundingClientRect(), { height } = boxOf(this.bar), item = this.sentences.children[at], least = Math.ceil(boxOf(this.element).top);
     const [arrow, letters] = ['edge', 'letters'].map(name => boxOf(this.picture.querySelector(`[data-${name}="${at}"]`)));
     const { top, bottom } = arrow.height < innerHeight - height - 2 * CLEAR ? arrow : letters, isSeen = top >= height && bottom <= innerHeight && least <= 0;
     scrollBy(0, Math.max(isSeen ? 0 : (top + bottom - height - innerHeight) / 2, least));
@@ -273,7 +300,7 @@ class CyclePanel {
   /** What the step says, where the sentences aren't beside the picture, and for readers of screens. */
   say(edge) {
     const isEnd = this.end.textContent !== '' && (this.shown === this.closed || this.shown === this.last);
-    const said = edge === undefined ? [this.shown > 0 ? 'All arrows that are drawn.' : isLecture() ? 'The arrows come one by one.' : '“Next arrow” tells them one by one.'] : [`${arrowName(this.shown - 1)} `, chipOf(edge.relation, this.isNarrow), ` ${edgeSentence(edge)}`,
+    const said = edge === undefined ? [this.shown > 0 ? 'All arrows that are drawn.' : isLecture() ? 'The arrows come one by one.' : 'Each arrow says what must be before what. “Next arrow” tells them one by one.'] : [`${arrowName(this.shown - 1)} `, chipOf(edge.relation, this.isNarrow), ` ${edgeSentence(edge)}`,
       html('span', { class: 'faint' }, ` ${meaningOf(edge.relation, this.cycle)}`)];
     this.said.replaceChildren(...said, ...(isEnd ? [' ', html('strong', {}, this.end.textContent)] : []));
   }

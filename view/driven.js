@@ -11,7 +11,7 @@ function showDrive() {
   showPicture();
   const step = history.steps[count - 1];
   const before = step && history.machineAfter(count - 1);
-  const said = step ? `${step.choice}${ofFirst()}: ${stepSentences(step, before, history.programs, isPlain).join(' ')}` : count === 0 ? startSentence(history) : 'The first machine\'s test has ended.';
+  const said = step ? `${beforeSentence(step)}${stepSentences(step, before, history.programs, isPlain).join(' ')}` : count === 0 ? startSentence(history) : 'The first machine\'s test has ended.';
   byId('sentence').textContent = lesson.told ? '' : said + (isPlain ? '' : sharedLine(history, count));
   byId('count').textContent = `${choicesSaid(count)} made`;
   showMoves();
@@ -26,13 +26,14 @@ function showDrive() {
   keepInSight();
 }
 
-/** Of machines abreast, where they differ, those that do as the first. */
-function ofFirst() {
+/** Before a step's sentence: its code, but not in a lecture; of machines abreast, where they differ, those that do as the first. */
+function beforeSentence({ choice }) {
   const { panels } = drawn, same = panels.filter(({ sentences }) => sentences.join() === panels[0].sentences.join());
-  return panels.length < 3 || same.length === panels.length ? '' : ` under ${listed(same.map(({ history }) => history.options.protocol.toUpperCase()))}`;
+  const under = panels.length < 3 || same.length === panels.length ? '' : ` under ${listed(same.map(({ history }) => history.options.protocol.toUpperCase()))}`;
+  return isLecture() ? under && `${under.replace(' u', 'U')}: ` : `${choice}${under}: `;
 }
 
-/** Scrolls to what the last choice changed. For that the browser has to lay the page out, so it comes after all changes. */
+/** Scrolls to what the last choice changed. It has the browser lay the page out, so it comes last. */
 function keepInSight() {
   scrollPicture();
   drawn.passes.keepInSight();
@@ -65,7 +66,7 @@ function markKeyed(isAsked) {
 }
 
 /** How a lecture's picture grows: by what at least and at most, in which part of the window's height, and by how wide its lanes have to be. */
-const LECTURED = { least: 1, most: 2.2, high: 0.54, lanes: 492, lane: 122 };
+const LECTURED = { least: 1, most: 2.2, high: 0.5, lanes: 492, lane: 122 };
 const SCROLLBAR = 17; // pixels, at most
 const frameMost = () => (isLecture() ? LECTURED.high : 0.68) / drawn.picture.zoom; // of the window's height, as the style has it
 
@@ -90,6 +91,8 @@ function makePicture() {
   const room = widthOfCard() / zoomOfPicture() - SCROLLBAR;
   const picture = drawn.picture = Object.assign(new GrowingPicture(firstHistory(), room), { room, zoom: zoomOfPicture() });
   shown.layout = picture.layout;
+  const { style } = byId('frame').parentElement, zoom = zoomOfPicture();
+  for (const [name, value] of [['large', zoom], ['row', `${picture.layout.row * zoom}px`], ['rows', mostRows(firstHistory().programs)]]) style.setProperty(`--${name}`, value);
   byId('frame').classList.toggle('whole', picture.layout.width <= room);
   byId('frame').style.containIntrinsicWidth = `${picture.layout.width}px`;
   byId('frame').replaceChildren(picture.element);
@@ -100,21 +103,22 @@ function showPicture() {
   if (drawn.picture === null || drawn.picture.isTooNarrowFor(firstHistory())) makePicture();
   drawn.picture.show(firstHistory(), drive.count);
   const isOver = firstHistory().hasEnded(drive.count), isEmpty = drawn.picture.rows.length === 0;
-  putText(byId('order-title'), isOver ? 'Memory order' : isEmpty ? 'Memory order: memory has seen nothing yet' : 'Memory order so far');
+  byId('frame').parentElement.classList.toggle('ended', isOver);
+  putText(byId('order-title'), isOver ? 'Memory order' : isEmpty ? 'Memory order: nothing yet' : 'Memory order so far');
   const { layout: { top }, extent, bottom } = drawn.picture, most = frameMost() * innerHeight;
-  const height = (isLecture() ? top(mostRows(firstHistory().programs)) + STRIP : bottom) - HEAD;
+  const height = isLecture() ? Math.max(firstHistory().cores > 2 ? 0 : most - 10, top(mostRows(firstHistory().programs)) + STRIP - HEAD) : bottom - HEAD;
   extent.style.minHeight = isLecture() && height <= most ? `${height}px` : '';
   byId('frame').classList.toggle('full', height > most);
 }
 
-/** Brings the last row into sight, and where the picture goes on to the side the lane of the core that acted. */
+/** Brings the last row into sight, and the lane of the core that acted. */
 function scrollPicture() {
   const { rows, layout, room } = drawn.picture, step = firstHistory().steps[drive.count - 1];
-  byId('frame').scrollTop = rows.length * ROW;
+  byId('frame').scrollTop = rows.length * layout.row;
   if (layout.width > room && step) byId('frame').scrollLeft = layout.left(coreOfChoice(step.choice)) - (room - layout.lane) / 2;
 }
 
-/** What goes by how far the picture is scrolled: the lanes' names above it, and what of it need not be there. */
+/** Places what goes by how far the picture is scrolled. */
 function placeDriven() {
   const { scrollLeft, scrollTop } = byId('frame');
   byId('names').scrollLeft = scrollLeft;
@@ -149,13 +153,12 @@ function showEnd(history) {
 }
 
 /** Says the condition in words, with what is written as their meaning. */
-function tellInWords(element, { proposition }, { condition }) {
+function tellInWords(element, { proposition, programs }, { condition }) {
   const wanted = condition && wantedWords(proposition);
   if (!wanted) return;
-  const [said] = element.textContent.split('Condition: '), own = TASKS[`${testName()} ${proposition}`] ?? '';
+  const [said] = element.textContent.split('Condition: '), words = loadsSentence(wanted, programs).replace('b', 'B') || wantedSentence(wanted);
   MEANINGS.written = `Written ${condition.kind} (${proposition}).`;
-  const words = own.includes('both loads read 0') ? 'Both loads read 0' : wantedSentence(wanted);
-  element.replaceChildren(said, withMeaning({}, 'written', words), `: ${condition.holds}.`);
+  element.replaceChildren(said, withMeaning({ tabindex: -1 }, 'written', words), `: ${condition.holds}.`);
 }
 
 /** Lists what loads passed so far. */
@@ -164,12 +167,12 @@ function showPasses(history) {
   drawn.passes.show(history.order, history.momentAfter(drive.count).rows, history.hasEnded(drive.count));
 }
 
-/** The condition before the test has ended: in words, where it speaks of words at places alone, and as it is written; in a lecture in words. */
-function conditionSentence({ proposition }) {
+/** The condition before the test has ended: in words, where it has some, and as it is written; in a lecture in words alone. */
+function conditionSentence({ proposition, programs }) {
   if (proposition === null) return 'Condition: the test has none.';
-  const wanted = wantedWords(proposition), inWords = wanted === null ? '' : `${wantedSentence(wanted)}, written `;
-  if (isLecture() && wanted !== null) return `Condition: ${wantedSentence(wanted)}.`;
-  return `Condition: ${inWords}${proposition}.`;
+  const wanted = wantedWords(proposition), inWords = wanted && (loadsSentence(wanted, programs) || wantedSentence(wanted));
+  if (isLecture() && wanted !== null) return `Condition: ${inWords}.`;
+  return `Condition: ${wanted === null ? '' : `${inWords}, written `}${proposition}.`;
 }
 
 /** Whether a run ended as is asked, in words alone; null where the condition has none. */
@@ -203,7 +206,7 @@ function keepPosition(act) {
 /** The numbers of the steps that changed nothing. */
 const stallsOf = ({ steps }) => steps.flatMap(({ outcome }, at) => (outcome === 'stalled' ? [at] : []));
 
-/** After an edit of the test: where a choice that was made does nothing any more, the run is shown before it. Says which choices were left out. */
+/** After an edit of the test: where a choice does nothing any more, the run is shown before it, and says what was left out. */
 function stayBeforeStall(stalledBefore) {
   const at = stallsOf(firstHistory()).find(each => !stalledBefore.includes(each)), text = choicesText(), known = countChoices(text);
   if (at !== undefined && at < drive.count) {
@@ -227,10 +230,11 @@ function showDriven(options, input, isAtStart) {
   return true;
 }
 
-/** Puts the parts that belong to driving in the place of those that belong to a run that has ended, or back. */
+/** Puts the parts for driving in the place of those for a run that has ended, or back. */
 function putDriving(isDriving) {
   if (byId('run').classList.toggle('driving', isDriving) === byId('legend').open) byId('legend').open = !isDriving;
   for (const part of document.querySelectorAll('[data-for=drive]')) part.hidden = !isDriving;
   for (const part of document.querySelectorAll('[data-for=run]')) part.hidden = isDriving;
+  byId('passed-title').tabIndex = isDriving ? -1 : 0; // arrows lead there
   if (!isDriving && drive.isOn) endDrive();
 }

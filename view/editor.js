@@ -32,8 +32,7 @@ function putInput(text) {
   return isOrder;
 }
 
-// The field of choices. A long text takes the browser some time to lay out, so where nobody sees the field the choices that are made
-// come there a little later.
+// The field of choices. A long text takes long to lay out, so where nobody sees the field choices come there later.
 
 const choicesField = { unwritten: null, isInSight: true };
 
@@ -78,7 +77,7 @@ function showWidth() {
   if (classList.toggle('wide', byId('test').value.split('\n').some(line => line.length > wideLine())) && !wasWide) byId('library').open = false;
 }
 
-/** Draws the numbers of a field's lines, and marks this one; null marks none. It does nothing where they are drawn so already. */
+/** Draws the numbers of a field's lines, and marks this one; null marks none. */
 function drawLines(id, marked) {
   const field = byId(id), [gutter, band] = [byId(id + '-lines'), byId(id + '-band')];
   if (id === 'test') showWidth();
@@ -125,7 +124,7 @@ function cellsOf(line) {
   });
 }
 
-/** Of a line that is refused the cell at fault: the hint begins with it, or with a word that it alone has; else null. */
+/** The cell at fault in a line: the hint begins with it, or with a word that it alone has; else null. */
 function cellAtFault(line, hint) {
   if (/^X86|[{}]/.test(line) || !/[|;]/.test(line)) return null; // no row of programs
   const said = hint.replace(/^hint: (line \d+: )?'?/, ''), [word] = said.split(/[\s:,]/), cells = cellsOf(line).filter(({ text }) => text !== '');
@@ -158,7 +157,7 @@ function plainChoice(number, name) {
   return why ? `${choicesText().includes('seed') ? 'Word' : 'Choice'} ${number}, ${word}: ${why}.` : '';
 }
 
-/** What is refused, in plain words: the line, the core whose cell is at fault, and why, by the hint where there is one. */
+/** What is refused, in plain words: the line, the core whose cell is at fault, and why. */
 function plainRefusal(place, cell, line, hint) {
   const name = line.trim().split(' ').at(-1), why = pageHint(hint).replace(/^hint: (line \d+: )?/, '') || FAULTS[name];
   if (place?.word) return plainChoice(place.word, name);
@@ -176,11 +175,11 @@ function focusRefusal() {
 }
 
 /** Hints that name what is certain to be meant, with what is changed, and to what. */
-const CELL = /^'?(.+?)'?(?=:| is).*(?:: write|one step:) ((?:LOCK )?[A-Z]+(?: \S+)?)\s*$/, SIGNS = { '&': '/\\', '|': '\\/', '=': '=' };
+const CELL = /^'?(.+?)'?(?=:| is).*(?:: write|one step:) ((?:LOCK )?[A-Z]+(?: \S+)?)\s*$/, SIGNS = { '&': '/\\', a: '/\\', '|': '\\/', o: '\\/', '=': '=' };
 const REPAIRS = [
   [/^(\w+) (?:is no register|has 64 bits).*write (\w+)\s*$/, ([, word, other]) => [new RegExp(`\\b${word}\\b`, 'gi'), other]],
   [/^no ; ends th(is|e) row/, () => [/\s*$/, ' ;']],
-  [/^'[&|=]': in a condition/, () => [/&&?|\|\|?|==/g, ([first]) => SIGNS[first]]],
+  [/^('[&|=]'|and|or): in a condition/, () => [/&&?|\|\|?|==|\b(?:and|or)\b/g, ([first]) => SIGNS[first]]],
 ];
 const LISTING = /^(hint: line \d+: )?(instructions alone|this is an assembler)/;
 const MOST_REPAIRED = 256; // as many cells as a test has
@@ -253,22 +252,30 @@ function aligned(text) {
   return [...lines.slice(0, first), ...cells.map(row => ` ${row.map((cell, core) => cell.padEnd(widths[core])).join(' | ')} ;`), ...lines.slice(last + 1)].join('\n');
 }
 
+/** A condition over what a test loads, each 0; empty where it loads nothing. */
+function conditionOver(test) {
+  const loaded = readTest(test).programs.flatMap((program, core) => program.filter(text => text.includes('[')).flatMap(writtenBy).map(name => `${core}:${name}=0`));
+  return loaded.length > 0 ? `exists (${[...new Set(loaded)].join(' /\\ ')})\n` : '';
+}
+
 /** Writes what is certain to be meant, up to a mistake that leaves a choice: one edit. */
 function writeRepairs() {
   const field = byId('test'), { options } = readSettings('run');
   const changes = [];
   notice.test = null; // what was said of it goes
-  let { hint } = bench.answer, { value: text } = field;
+  let { hint, status } = bench.answer, { value: text } = field;
+  const isListing = LISTING.test(hint);
   for (let found = repaired(text, hint); found !== null && changes.length < MOST_REPAIRED; found = repaired(text, hint)) {
     ({ text } = found);
     changes.push(found);
-    ({ hint } = asked(options, text));
+    ({ hint, status } = asked(options, text));
   }
+  const askedFor = isListing && status !== Tso.STATUS.refused ? conditionOver(text) : '';
   undoing.field = null;
   field.focus();
   field.select();
-  document.execCommand('insertText', false, aligned(text)); // which the field can undo, too
-  const count = changes.reduce((sum, each) => sum + each.count, 0), said = `Changed: ${count} place${count === 1 ? '' : 's'}: ${changesSaid(changes)}`, isRefused = bench.answer?.status === Tso.STATUS.refused;
+  document.execCommand('insertText', false, aligned(text) + askedFor); // which the field can undo, too
+  const count = changes.reduce((sum, each) => sum + each.count, 0), said = `Changed: ${count} place${count === 1 ? '' : 's'}: ${changesSaid(changes)}${askedFor && 'Write into exists what you ask for. '}`, isRefused = bench.answer?.status === Tso.STATUS.refused;
   if (isRefused) focusRefusal();
   else notice.said = said + noticeOf(inputOf('sweep')); // while the test is the same
   putText(document.querySelector('.noticed'), isRefused ? said : notice.said);

@@ -65,11 +65,11 @@ const nameIn = test => /^X86\s+(.*\S)/m.exec(test)?.[1];
 
 /** What a test asks, to begin with: by its line `Asks=`, or by its condition. */
 function questionOf(test) {
-  const { proposition } = readTest(test), { Asks } = notesOf(test);
+  const { proposition, programs } = readTest(test), { Asks } = notesOf(test);
   if (Asks || proposition === null) return Asks ?? '';
-  const own = TASKS[`${nameIn(test)} ${proposition}`]?.match(/^Make (.*)\.$/);
-  if (own && quantifierOf(test) === 'exists') return `Can ${own[1]}?`;
-  const wanted = wantedWords(proposition), end = wanted === null ? proposition : wantedSentence(wanted);
+  const wanted = wantedWords(proposition), own = TASKS[`${nameIn(test)} ${proposition}`]?.match(/^Make (.*)\.$/)?.[1] || (wanted && loadsSentence(wanted, programs));
+  if (own && quantifierOf(test) === 'exists') return `Can ${own}?`;
+  const end = wanted === null ? proposition : wantedSentence(wanted);
   return quantifierOf(test) === 'forall' ? `Does each run end with ${end}?` : `Can a run end with ${end}?`;
 }
 
@@ -81,7 +81,7 @@ function proposedQuestion(test) {
 
 function beginExercise() {
   const form = byId('exercise-form');
-  byId(byId('run').hidden ? 'way-back' : 'saves').append(form);
+  byId(byId('run').hidden ? 'way-back' : 'saves').append(form, byId('list-part'));
   form.hidden = false;
   byId('exercise-said').value = proposedQuestion(inputOf('sweep'));
   byId('exercise-said').focus();
@@ -100,9 +100,11 @@ function exerciseAt(address, asked) {
   return told.toString();
 }
 
+const questionToAsk = () => byId('exercise-said').value.trim().slice(0, MOST_ASKED);
+
 function saveExercise() {
-  const asked = byId('exercise-said').value.trim().slice(0, MOST_ASKED), address = exerciseAt(currentAddress(), asked), { lessons } = taught;
-  const seen = `${asked === '' ? '' : ` It asks: “${asked}”`} It starts without choices, and hides the answers until students have answered.`;
+  const asked = questionToAsk(), address = exerciseAt(currentAddress(), asked), { lessons } = taught;
+  const seen = `${asked === '' ? '' : ` It asks: “${asked}”`} It starts without choices${drive.beside === ABREAST ? ', with all four protocols' : ''}, and hides the answers until students have answered.`;
   return saveWhole(fileName(`${testName()}-exercise`, '.html'), () => wholePage(address, lessons.length === 0 ? '' : JSON.stringify({ lessons })), seen);
 }
 
@@ -117,6 +119,7 @@ byId('exercise-form').addEventListener('submit', event => {
   byId('exercise-form').hidden = true;
   saveExercise();
 });
+byId('exercise-see').addEventListener('click', () => window.open(`${location.pathname}#${exerciseAt(currentAddress(), questionToAsk())}`));
 document.addEventListener('click', ({ target }) => {
   if (target.dataset?.thought !== undefined) answerExercise(target.dataset.thought);
 });

@@ -17,6 +17,7 @@ function putFormats(known) {
   byId('formats').hidden = !IN_BOTH.includes(currentCommand());
   if (byId('formats').hidden) byId('as-printed').checked = true;
   byId('report-copied').textContent = '';
+  putReportKey('');
   showWordsLine(currentCommand());
 }
 
@@ -53,7 +54,9 @@ async function showFormat() {
     if (currentCommand() !== 'run') byId('report').textContent = 'Working …';
     texts[name] = await askFormat(name);
   }
-  if (formats.texts === texts && formatNow() === name) byId('report').textContent = laidOut(texts[name], name);
+  if (formats.texts !== texts || formatNow() !== name) return;
+  byId('report').textContent = laidOut(texts[name], name);
+  putReportKey(texts[name]);
 }
 
 /** What stands in the field of the report, as a file. */

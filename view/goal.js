@@ -4,7 +4,6 @@
 
 /** Tasks that have words of their own, by the test's name and its proposition. One that speaks of misses is for who sees the caches. */
 const TASKS = {
-  'SB 0:EAX=0 /\\ 1:EAX=0': 'Make both loads read 0.',
   'SBF 0:EAX=0 /\\ 1:EAX=0': 'Make both loads read 0, past the fences.',
   'false-sharing 1:EAX=1': 'Step to the end. Each core uses its own word alone: why does each access miss?',
 };
@@ -20,14 +19,22 @@ const isRegister = ({ register }) => register !== undefined;
 const wantedSentence = places => listed(places.map(part => `${part.word} in ${placeWords(part)}`));
 const placeWords = ({ core, register, location }) => (register === undefined ? location : `P${core}'s ${register}`);
 
+/** The same of two loads, where a test has no others; else empty. */
+function loadsSentence(places, programs) {
+  const loads = programs.flatMap((program, core) => program.flatMap(text => /^MOV (\w+),\[/.exec(text)?.[1] ?? []).map(name => core + name)), [one, other] = places;
+  const isSo = loads.length === 2 && one.word === other?.word && `${loads.sort()}` === `${places.map(({ core, register }) => core + register).sort()}`;
+  return isSo ? `both loads read ${one.word}` : '';
+}
+
 /** The quantifier of a test's condition, or null. */
 const quantifierOf = test => /^[ \t]*(~[ \t]*exists|exists|forall)\b/m.exec(test)?.[1].replace(/\s/g, '') ?? null;
 
 /** What a task asks for, in words. `forall` is shown wrong by any other end. */
-function taskSentence(name, proposition, quantifier) {
+function taskSentence(name, proposition, quantifier, programs) {
   const own = TASKS[`${name} ${proposition}`], wanted = wantedWords(proposition);
   if (own && quantifier === 'exists' && (!own.includes('miss') || (showsCaches(drivenMachines()) && !isExercise()))) return own;
-  const said = wanted ? wantedSentence(wanted) : proposition;
+  const said = wanted ? wantedSentence(wanted) : proposition, ofLoads = wanted && quantifier !== 'forall' && loadsSentence(wanted, programs);
+  if (ofLoads) return `Make ${ofLoads}.`;
   return quantifier === 'forall' ? `End otherwise than with ${said}.` : `End with ${said}.`;
 }
 
@@ -104,19 +111,19 @@ const FEW_CHOICES = 20; // to make by hand
 function afterTry(history, count, met, quantifier) {
   if (met === null) return isRefuted() ? '' : lostSentence(history, count, quantifier);
   if (!met) return ` ${missedSentence(history, count, quantifier)}${isRefuted() ? '' : ' Go back, or make other choices.'}`;
-  const claim = quantifier === 'exists' ? '' : ' So the claim of the test is wrong.';
+  const claim = quantifier === 'exists' ? '' : 'So the claim of the test is wrong.';
   const passes = passesOf(history.order.slice(0, history.momentAfter(count).rows), '').filter(sentence => sentence !== '');
-  const more = passes.splice(MOST_PASSES).length, rest = more > 0 ? ` And ${more} more.` : '';
-  const isOfAnswer = isAnswersRun(), done = isOfAnswer ? 'This run shows it.' : doneWord(history, count);
+  const more = passes.splice(MOST_PASSES).length, rest = more > 0 ? `And ${more} more.` : '';
+  const isOfAnswer = isAnswersRun(), done = isOfAnswer ? '' : doneWord(history, count);
   const then = isOfAnswer && history.steps.length <= FEW_CHOICES ? ' Now make it yourself.' : '';
-  return `${` ${done}${claim} ${passes.join(' ')}${rest}`.trimEnd()}${then}`;
+  return [done, claim, ...passes, rest].filter(words => words !== '').map(words => ` ${words}`).join('') + then;
 }
 
 /** The task in words: done, or known to be impossible since an answer said so, or open. */
-function taskWords(quantifier, proposition, isDone, can) {
-  const task = `${CLAIMS[quantifier]}${taskSentence(testName(), proposition, quantifier)}`;
+function taskWords(quantifier, proposition, { isDone, isShown }, can) {
+  const task = `${CLAIMS[quantifier]}${taskSentence(testName(), proposition, quantifier, firstHistory().programs)}`;
   if (isDone) return `✓ Task: ${task}`;
-  return isRefuted() ? `${task} It can't be done: ${quantifier === 'forall' ? 'each' : 'no'} run ends so.` : `☐ ${taskTitle(can)} ${task}`;
+  return isRefuted() ? `${task} It can't be done: ${quantifier === 'forall' ? 'each' : 'no'} run ends so.` : `${isShown ? '▷ Shown by the answer:' : `☐ ${taskTitle(can)}`} ${task}`;
 }
 
 const lectured = { key: null }; // of which test the question stands there
@@ -144,7 +151,7 @@ function showTask(history, count, run) {
   byId('task').hidden = isAsked && after === '';
   byId('task').classList.toggle('met', isDone);
   byId('task').classList.toggle('asked', met !== true && possible.isAsked && !isUnanswered()); // so that its title doesn't change before one's eyes
-  putText(byId('task-said'), isAsked ? '' : taskWords(quantifier, proposition, isDone, met ? true : can));
+  putText(byId('task-said'), isAsked ? '' : taskWords(quantifier, proposition, { isDone, isShown: met === true && !isDone }, met ? true : can));
   const offers = (isDone || (met === false && can !== true)) && !isUnanswered() && document.querySelector('#commands [value=why]') !== null;
   putText(byId('task-after'), after);
   byId('task-why').hidden = !offers;

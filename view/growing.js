@@ -2,13 +2,11 @@
 
 // The picture of a run that isn't over: its rows come and go with the steps. Under the last row stands what waits.
 //
-// It is made of sheets, one over the other: each layer of the picture has one for each piece of so many rows. What a step adds goes
-// to the last piece, so the browser lays out and paints the last sheets anew, and lets all others be. What reaches over the rows of
-// other pieces is on the sheet of its last row, and hangs over this sheet's upper edge. So of a sheet that lies above what is in sight
-// nothing can be seen, and the browser has less to go through while it is hidden.
+// It is made of sheets: each layer has one for each piece of so many rows. A step adds to the last piece, so the browser paints its sheets alone
+// anew. What reaches over other pieces is on the sheet of its last row, and hangs over its upper edge: so a sheet above what is in sight can be hidden.
 
 const STRIP = 46; // pixels under the last row
-const NOT_YET = 'still in buffer'; // so that nobody takes the strip for a part of memory
+const NOT_YET = ['still in buffer', 'waits']; // so that nobody takes the strip for a part of memory; the shorter where that lacks room
 const PIECE = 16; // rows
 const SPARE = 2; // pieces above what is in sight that aren't hidden, for one who scrolls
 const LAYERS = ['grounds', 'waits', 'arrows', 'entries'];
@@ -31,7 +29,7 @@ class WaitingBar {
   }
 }
 
-/** Makes rows those of the first `count` entries of an order: takes the last ones away while they are of others, and adds what lacks. */
+/** Makes rows those of the first `count` entries of an order. */
 function growRows(rows, order, count, add, take) {
   while (rows.length > 0 && (rows.length > count || rows.at(-1).entry !== order[rows.length - 1])) take(rows.pop());
   while (rows.length < count) rows.push(add(order[rows.length]));
@@ -45,7 +43,8 @@ function mostRows(programs) {
 /** What the strip says of a core: the stores that wait, the oldest first. */
 function drawStores(layout, core, text) {
   const { left, lane, inner } = layout, room = lane - inner - 8, place = { x: left(core) + inner + 4, 'text-anchor': 'start' };
-  return svg('g', { class: 'not-yet' }, fittingText({ class: 'faint', ...place, y: 13 }, 12, NOT_YET, room), fittingText({ ...place, y: 33 }, 14, text, room));
+  const said = NOT_YET.find(words => words.length * NOTE_FONT * GLYPH <= room) ?? NOT_YET[1];
+  return svg('g', { class: 'not-yet' }, fittingText({ class: 'faint', ...place, y: 13 }, NOTE_FONT, said, room), fittingText({ ...place, y: 33 }, 14, text, room));
 }
 
 /** The load part of a locked instruction whose store part is to come, in the strip. */
@@ -69,8 +68,7 @@ function drawRow(history, layout, entry) {
   };
 }
 
-/** A layer of the picture: in it each piece has a sheet, and on this each row a group of its own, so that little is new to the browser
- * where a row is filled. */
+/** A layer of the picture: each piece has a sheet in it, and each row a group there. */
 class Layer {
   /** Where `isUnder`, what comes later goes under what is there: a store's way goes over the bars of later ones. */
   constructor(layout, isUnder) {
@@ -92,7 +90,7 @@ class Layer {
   addSheet(first) {
     const groups = Array.from({ length: PIECE }, () => svg('g', {})), inOrder = this.isUnder ? groups.toReversed() : groups;
     groups.forEach((group, at) => { this.groups[first + at] = group; });
-    const sheet = this.sheets[first / PIECE] = drawSheet(this.layout, this.layout.top(first), PIECE * ROW, ...inOrder);
+    const sheet = this.sheets[first / PIECE] = drawSheet(this.layout, this.layout.top(first), PIECE * this.layout.row, ...inOrder);
     this.element[this.isUnder ? 'prepend' : 'append'](sheet);
   }
 
@@ -132,12 +130,12 @@ class GrowingPicture {
     this.strip = svg('g', {}, ...this.stores.map(({ element }) => element), this.half);
   }
 
-  /** Under the layers the lanes with the mark of the last step, and over them what goes on down. Both are as high as the picture may
-   * become, of which the window shows what has come: so no step has all of it laid out anew. */
+  /** Under the layers the lanes with the mark of the last step, and over them what goes on down. Both are as high as the picture may become, so that
+   * no step has all of it laid out anew. */
   makeSheets() {
     const { history, layout } = this, { width, lane, left } = layout;
     const height = layout.top(mostRows(history.programs)) + STRIP;
-    this.band = svg('rect', { class: 'band', x: 0, width });
+    this.band = svg('rect', { class: 'band', x: 0, width, 'fill-opacity': 0.5 });
     this.cursor = svg('line', { class: 'cursor', x1: 0, x2: width });
     const lanes = coresOf(history).map(core => svg('rect', { class: 'lane', x: left(core), y: 1, width: lane, height }));
     const names = svg('g', { class: 'names' }, ...coresOf(history).map(core => drawName(layout, core, 23)));
@@ -159,7 +157,7 @@ class GrowingPicture {
     return this.element.getAttribute('aria-label');
   }
 
-  /** For paper: what has come as one picture, or where that doesn't go on one page in pieces of whole rows, between which a page may end. */
+  /** For paper: what has come, or where that doesn't go on one page pieces of it, of whole rows. */
   onPaper() {
     this.hideAbove(0);
     const { label, bottom, layout: { width, top } } = this, rows = this.rows.length, above = this.element.getBoundingClientRect().top - HEAD;
@@ -176,7 +174,7 @@ class GrowingPicture {
 
   /** Hides what lies far above a height of the picture, which is the highest in sight. */
   hideAbove(top) {
-    const piece = Math.max(0, Math.floor(top / (PIECE * ROW)) - SPARE);
+    const piece = Math.max(0, Math.floor(top / (PIECE * this.layout.row)) - SPARE);
     if (piece === this.firstPiece) return;
     this.firstPiece = piece;
     for (const layer of Object.values(this.layers)) layer.hideBefore(piece);
@@ -217,13 +215,13 @@ class GrowingPicture {
     this.waiting.append(bar.element);
   }
 
-  /** Shows as much of the picture as there are rows, and marks those of the last step. At the end nothing waits under them. */
+  /** Shows as much of the picture as there are rows, and marks those of the last step. */
   size(rows, before, hasEnded) {
     const { layout } = this;
     this.bottom = layout.top(rows) + (hasEnded ? 4 : STRIP);
     this.extent.style.height = `${this.bottom - HEAD}px`;
     setAll(this.element, { 'aria-label': `Memory order of the run so far: ${rows} entries. The store buffers and the last step stand above in words.` });
-    setAll(this.band, { y: layout.top(before), height: (rows - before) * ROW, visibility: rows > before ? 'visible' : 'hidden' });
+    setAll(this.band, { y: layout.top(before), height: (rows - before) * layout.row, visibility: rows > before ? 'visible' : 'hidden' });
     setAll(this.cursor, { y1: layout.top(rows), y2: layout.top(rows) });
     setAll(this.strip, { transform: `translate(0 ${layout.top(rows)})` });
     for (const arrow of this.arrowsNow) arrow.classList.remove('now');

@@ -12,6 +12,8 @@ const IN_WORDS_OF_THE_PAGE = [
   ['name fewer atoms', 'name fewer registers and locations'],
   ['the proposition', 'the condition'],
   ['lower --depth', 'lower --depth (then it is less than TSO)'],
+  [/(C is a language|this is C): .*/, 'this is C, and here are x86 instructions: “From C and C++” below says which'],
+  ['leave out one that keeps only loads or only stores in order', 'a weaker one isn\'t needed (leave out LFENCE and SFENCE)'],
   ['the tool import', 'the program tools/import of a checkout'],
   [/: an input has only one, so.*/, ': one test at a time'],
   [' after ====: ', ' of it: '],
@@ -39,7 +41,7 @@ const CHOICE_FAULTS = {
 /** What was asked last for a notice: the test, and what the hint said. */
 const notice = { test: null, said: '' };
 
-/** What a condition says of registers that no instruction of their core writes: each keeps its word of the start, whatever one meant. */
+/** What a condition says of registers that no instruction of their core writes. */
 function unwrittenSaid(test) {
   const { programs, proposition, start } = readTest(test), named = [...(proposition ?? '').matchAll(/(\d)\s*:\s*([A-Z]{3})/g)];
   const unwritten = named.filter(([, core, register]) => !programs[core].flatMap(writtenBy).includes(register));
@@ -47,8 +49,7 @@ function unwrittenSaid(test) {
   return [...words].map(([name, { core, word }]) => `the condition names ${name}, which no instruction of P${core} writes: it stays ${word}.`);
 }
 
-/** What is said of a condition that names what nothing writes; empty where it names no such thing. The test is answered all the same, and
- * an answer in JSON has no hint of locations: so a sweep of one short run is asked. */
+/** What is said of a condition that names what nothing writes. An answer in JSON has no hint of locations, so a sweep of one short run is asked. */
 function noticeOf(test) {
   if (notice.test === test) return notice.said;
   const found = /the condition names [^]*stays \d+/.exec(asked({ command: 'sweep', seeds: 1 }, test).hint);

@@ -6,7 +6,7 @@ const isLecture = () => document.documentElement.classList.contains('lecture');
 
 function nameLecture(button) {
   setAll(button, { 'aria-pressed': String(isLecture()) });
-  button.textContent = isLecture() ? 'End the lecture' : taught.list.length > 0 ? 'Start the lecture' : 'For a lecture';
+  button.textContent = isLecture() ? 'End the lecture' : taught.list.length > 0 ? 'Start the lecture' : 'Lecture mode';
   return button;
 }
 
@@ -28,7 +28,7 @@ function putLecture(isOn) {
   scrollTo(0, 0);
 }
 
-/** Begins or ends the mode, a list at its first test, and a whole run from its start. Where the browser gives no whole screen, all else of it is the same. */
+/** Begins or ends the mode: a list at its first test, a whole run at its start. Some browsers give no whole screen. */
 async function toggleLecture() {
   const isOn = !isLecture();
   putLecture(isOn);
@@ -42,7 +42,7 @@ async function toggleLecture() {
   }
 }
 
-/** Opens a list that was saved: several tests are a lecture, which a clicker steps at once, but no exercises. After a reload it goes on at its place. */
+/** Opens a saved list: several tests are a lecture, but no exercises; a reload goes on at its place. */
 function openLecture(at = 0) {
   openListed(Math.min(Math.max(0, at), taught.list.length - 1));
   if (taught.list.length > 1 && !isExercise()) putLecture(true);
@@ -50,7 +50,7 @@ function openLecture(at = 0) {
 
 // A clicker has the keys PageUp and PageDown: they step what is shown.
 
-/** What a clicker's keys do to a lesson: they go through its steps, make its choices, and give its answers. */
+/** A clicker's keys in a lesson: they go through its steps, make its choices, give its answers. */
 function clickLesson(isOn) {
   const { at, isDone } = lesson, { do: word, ask: question, right, answers, show: shows } = stepNow();
   if (!isOn) return (at > 0 || lesson.isStrayed) && goBack();
@@ -67,11 +67,11 @@ const isInRun = () => !isOfEntry() && ownRun.kept !== null && ownRun.kept.count 
 
 const drawnCycle = () => (sheet.cycle?.last > 1 && sheet.cycle.element.isConnected && !drive.isOn ? sheet.cycle : null);
 
-/** Whether why comes after a run: where no list shows it, and no caches are shown, of which it tells nothing. */
-const isWhyNext = () => drive.isOn && !isOfEntry() && firstHistory().proposition !== null && !showsCaches(drivenMachines()) && !isExercise() &&
+/** Whether why comes after a run: where no entry shows it, nor caches are shown, of which it tells nothing. */
+const isWhyNext = () => drive.isOn && !(isOfEntry() && isListed('why')) && firstHistory().proposition !== null && !showsCaches(drivenMachines()) && !isExercise() &&
   document.querySelector('#commands [value=why]') !== null;
 
-/** What PageDown does next, as the foot says it, and how it is done: a step of what is shown, or what comes after its end. */
+/** What PageDown does next, as the foot says it, and how: a step of what is shown, or what comes after it. */
 function onward() {
   const cycle = drawnCycle(), { isOn, count, words } = drive, at = placeNow() + 1, next = toGoThrough()[at];
   if (cycle && cycle.shown < cycle.last) return [cycle.shown < cycle.closed ? `arrow ${cycle.shown + 1} of ${cycle.closed}` : 'all arrows', () => cycle.move('next')];
@@ -104,6 +104,9 @@ function footSaid() {
 }
 
 const showFoot = () => isLecture() && playlist.where !== footSaid() && drawBar();
+
+/** While keys lead no pointer is seen, nor what it is at, until it moves. */
+const putLed = isLed => document.documentElement.classList.toggle('led', isLed);
 
 function click(isOn) {
   if (isOn) onward()?.[1]();
@@ -143,6 +146,8 @@ document.addEventListener('keydown', event => {
   click(event.key === 'PageDown');
 });
 for (const kind of ['scroll', 'click']) document.addEventListener(kind, showFoot, { passive: true });
+for (const kind of ['keydown', 'wheel', 'pointerdown', 'pointermove']) document.addEventListener(kind, () => putLed(kind === 'keydown' && isLecture()), { passive: true });
+document.addEventListener('pointerdown', ({ target, clientX: x, clientY: y, pointerType }) => target.matches('html') && pointerType === 'mouse' && document.elementFromPoint(x, y)?.click()); // it came while they led
 document.addEventListener('fullscreenchange', () => {
   if (!document.fullscreenElement && isLecture()) putLecture(false);
 });
@@ -150,5 +155,6 @@ document.addEventListener('click', ({ target, detail }) => {
   if (target.matches('[data-onward]')) click(true);
   if (!target.matches('[data-lecture]')) return;
   toggleLecture();
-  if (detail > 0) target.blur(); // it was pressed by a pointer: so no key of a clicker presses it again
+  putLed(isLecture());
+  if (detail > 0) target.blur(); // so no key of a clicker presses it again
 });

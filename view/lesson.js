@@ -4,8 +4,8 @@
 
 const IN_LESSON = Object.freeze({ told: null, at: 0, isDone: false, answer: null, before: '', refused: '', isStrayed: false, views: '' });
 
-/** The lesson that runs (`told`, or null), its step, whether what that wants is done, what was answered, what came `before` where it went on by itself,
- * what is said of a wrong press, whether the reader went another way, and what is shown in place of the machine. */
+/** The lesson that runs (`told`, or null), its step and how far that is, what came `before` where it went on by itself, whether the reader went another
+ * way, and what `views` are in place of the machine. */
 let lesson = IN_LESSON;
 
 const putLesson = changes => { lesson = Object.freeze({ ...lesson, ...changes }); };
@@ -18,7 +18,7 @@ const stepNow = () => lesson.told.steps[lesson.at];
 
 /** The step at which a step's part begins: the last one up to it that has a test of its own, or the first. */
 const beginOf = (steps, at) => Math.max(0, steps.findLastIndex((step, each) => each <= at && step.test !== undefined));
-/** Whether nothing is shown of a step alone: it is made in the place of Next, and goes on to a question. */
+/** Whether a step is made in the place of Next, and goes on to a question. */
 function isPassedBy(steps, at) {
   const { do: word, look, test } = steps[at], next = steps[at + 1];
   return word && !look && !test && at > 0 && !steps[at - 1].show && next?.ask && !next.test;
@@ -31,7 +31,7 @@ function showPlace({ steps }, at) {
   putText(byId('lesson-place'), `${begins.length > 2 ? `Part ${part + 1} of ${begins.length - 1}, s` : 'S'}tep ${value} of ${max}`);
   setAll(byId('lesson-bar'), { value, max });
 }
-/** A choice as it is pressed, and what a step says: it names the button. */
+/** What a step says names its button. */
 const pressWords = word => `${isDrain(word) ? 'drain' : 'step'} at P${coreOfChoice(word)}`;
 const pressSaid = ({ say = '', do: word }) => (/press/i.test(say) ? [say] : [say && `${say} `, html('strong', {}, `Press ${pressWords(word)}`), ' ', html('kbd', {}, word)]);
 
@@ -78,6 +78,7 @@ const LESSON_SHOWS = {
 function beginLesson(name, at = 0) {
   const told = lessonNamed(name);
   if (!told) return;
+  if (lesson.told === null && leftLesson?.test !== byId('test').value) ownBefore = isFirstTest() ? null : snapshotNow();
   putLesson({ ...IN_LESSON, told, isStrayed: true });
   cachesView.wanted = told.caches ? true : null;
   byId('about').open = byId('test-part').open = false;
@@ -114,7 +115,7 @@ function enterStep(at, { isBack = false, before = '' } = {}) {
   keepAddressSoon();
 }
 
-/** Leads back from the reader's own way, or to the step before. */
+/** Leads back to the lesson's place, or to the step before. */
 function goBack() {
   const { told: { steps }, at, isDone, isStrayed } = lesson;
   if (!isStrayed) return enterStep(at - 1, { isBack: true });
@@ -135,10 +136,12 @@ function endLesson() {
   keepAddressSoon();
 }
 
-/** The lesson that was left last, at which step, and its test; null before. */
-let leftLesson = null;
+/** The lesson that was left last, at which step, and its test; null before. And what stood there before a lesson, where it was a test of one's own. */
+let leftLesson = null, ownBefore = null;
 
-/** Leaves the lesson: its run stays, with its task and the ways back. */
+const isFirstTest = () => byId('test').value === partsOf(EXAMPLES[FIRST_TEXT]).test;
+
+/** Leaves the lesson: its run stays. */
 function leaveLesson() {
   const { told: { name, steps }, at, isDone } = lesson, title = partTitled(), next = isDone && at === steps.length - 1 ? nextLesson() : undefined;
   endLesson();
@@ -148,9 +151,11 @@ function leaveLesson() {
   byId('lesson-again').focus({ preventScroll: true });
 }
 
-/** Shows the first test, as the page does when it opens. */
+/** Shows one's own test again, from which a lesson led away; else the first test, as the page does when it opens. */
 function toFirstTest() {
+  const own = leftLesson?.test === byId('test').value ? ownBefore : null;
   forgetOwnRun();
+  if (own !== null) return restore(own);
   beginAddress();
   putDrive({ beside: null });
   putInput(partsOf(EXAMPLES[FIRST_TEXT]).test);
@@ -160,7 +165,7 @@ function toFirstTest() {
   byId('run').scrollIntoView({ block: 'nearest' });
 }
 
-/** Says whose test this is after a lesson was left, until there is another test. Also leads back from one with an error. */
+/** Says whose test this is after a lesson was left. Also leads back from one with an error. */
 function showLeft() {
   const isLeft = leftLesson?.test === byId('test').value, isRefused = byId('test').matches('[aria-invalid=true]');
   byId('left-lesson').hidden = lesson.told !== null || !(isLeft || isRefused);
@@ -168,7 +173,9 @@ function showLeft() {
   if (isLeft) putText(byId('lesson-again'), leftLesson.on ? `Next lesson: ${leftLesson.on}` : 'Go on with the lesson');
   const goesOn = drive.isOn && drive.count > 0 ? ', and your run goes on' : '';
   putText(byId('left-said'), isLeft ? `This is the test of the lesson “${leftLesson.title}”${goesOn}.` : 'This test has an error.');
-  byId('to-first-test').hidden = byId('test').value === partsOf(EXAMPLES[FIRST_TEXT]).test;
+  const isOwn = isLeft && ownBefore !== null;
+  byId('to-first-test').hidden = isFirstTest() && !isOwn;
+  putText(byId('to-first-test'), isOwn ? 'Back to your own test' : 'Back to the first test');
 }
 
 /** Whether a choice is made: not while a question waits, since it may tell the answer. */
@@ -224,14 +231,13 @@ const putSaid = (id, said) => {
   putText(byId(id), said);
 };
 
-/** Says what a step tells or asks, what came of it, and what to press. */
 function showSentences() {
   const step = stepNow(), { isDone, answer, refused, isStrayed, before, told: { steps }, at } = lesson;
   putSaid('lesson-before', before);
   putSaid('lesson-said', step.ask ?? (step.do === undefined ? step.say : ''));
   byId('lesson-said').classList.toggle('sum', isSum());
   putSaid('lesson-after', isStrayed ? `You may go your own way. ${drawn.panels[0]?.sentences.join(' ')}` : refused || (isDone && (step.ask === undefined ? step.then : judgedAnswer(step, answer))) || '');
-  byId('lesson-now').replaceChildren(...(wantedNow() === undefined ? [] : pressSaid(steps[at + isDone])));
+  byId('lesson-now').replaceChildren(...(isAsked() ? ['Answer first.'] : wantedNow() === undefined ? [] : pressSaid(steps[at + isDone])));
   const judged = isStrayed || answer === null || step.right === undefined ? '' : answer === step.right ? 'right' : 'wrong';
   byId('lesson-after').className = `after ${refused === '' ? judged : 'wrong'}`;
 }
@@ -249,19 +255,20 @@ function lessonButtons() {
   ];
 }
 
-function inC(instruction, core) {
-  const [, to, from] = /^MOV (\S+),(\S+)$/.exec(instruction) ?? [], word = text => text.replace(/[[\]$]/g, '').replace(/^E.X$/, `r${core}`);
-  return to ? `${word(to)} = ${word(from)};` : instruction === 'MFENCE' ? 'fence;' : '';
-}
-const withoutSpace = test => test.replace(/^.*\n|\s/g, '');
-const lessonTests = () => lessonsHere().flatMap(({ text, test, steps }) =>
-  [test ?? partsOf(LIBRARY.find(each => each.file === text).text).test, ...steps.flatMap(step => step.test ?? [])]).map(withoutSpace);
-const inCAt = { test: null, isSo: false }; // the test that was asked about last
-/** Whether programs stand in C beside: in a lesson and at its tests, where EAX is enough. */
-function isToldInC({ programs }) {
-  const test = byId('test').value;
-  if (inCAt.test !== test) Object.assign(inCAt, { test, isSo: lessonTests().includes(withoutSpace(test)) });
-  return (lesson.told !== null || inCAt.isSo) && programs.flat().every(text => inC(text, 0) !== '' && !/E[^A]X/.test(text));
+const MOST_LETTERS = 16; // of an instruction with its C beside it
+
+/** Programs in C, with the `names` of each core's registers there (r0, r1 ..); null where an instruction has no such form. */
+function inC(programs) {
+  let count = 0;
+  const names = programs.map(() => ({}));
+  const lineOf = (text, core) => {
+    const word = part => (/^E/.test(part) ? names[core][part] ??= `r${count++}` : part.replace(/[[\]$]/g, ''));
+    const [, to, from] = /^MOV (\S+),(\S+)$/.exec(text) ?? [], [, place, register] = /^XCHG (\[\w+\]),(\w+)$/.exec(text) ?? [];
+    if (text.length > MOST_LETTERS || /\[r\d+\]/.test(text)) return null;
+    return to ? `${word(to)} = ${word(from)};` : place ? `swap(${word(place)}, ${word(register)});` : text === 'MFENCE' ? 'fence;' : null;
+  };
+  const lines = programs.map((program, core) => program.map(text => lineOf(text, core)));
+  return lines.flat().includes(null) ? null : { lines, names };
 }
 
 function markWanted() {
@@ -278,7 +285,6 @@ function showNext() {
   putText(byId('lesson-also'), stepNow().also?.says ?? '');
 }
 
-/** Marks the picture, in sight, where a step speaks of it. */
 function lookAtPicture() {
   const isLooked = lesson.told !== null && lesson.isDone && stepNow().look === 'picture';
   byId('frame').classList.toggle('looked', isLooked);
@@ -289,6 +295,7 @@ function drawLesson() {
   const isOn = lesson.told !== null, { classList } = document.documentElement;
   classList.toggle('learning', isOn);
   classList.toggle('questioned', isAsked());
+  classList.toggle('to-arrows', isOn && /Next arrow/.test(lesson.told.steps[lesson.at].say));
   const { at, isDone } = lesson, asked = isOn && lesson.told.steps.findIndex((step, each) => step.ask && each >= beginOf(lesson.told.steps, at));
   classList.toggle('unasked', isOn && at < asked + !isDone); // what waits may tell the answer
   byId('lesson').hidden = !isOn;
@@ -324,9 +331,12 @@ function goElsewhere() {
   fold.firstElementChild.focus();
 }
 
-/** Puts the focus on what a step waits for or asks; at a lesson's end on what is said there. */
+/** The button of the next arrow, where a step tells of it. */
+const nextArrow = () => /“Next arrow”/.test(stepNow().say) && document.querySelector('[data-edges=next][aria-disabled=false]');
+
+/** Puts the focus on what a step waits for or asks, and else on Next. */
 function focusStep() {
-  const waited = isAsked() || isSum() ? byId('lesson-said') : document.querySelector('[data-choice].wanted');
+  const waited = isAsked() ? byId('lesson-said') : document.querySelector('[data-choice].wanted') ?? (nextArrow() || undefined);
   (waited ?? (lesson.isDone ? null : document.querySelector('#lesson-answers [data-show]')) ?? byId('lesson-next')).focus({ preventScroll: true });
 }
 
@@ -360,11 +370,11 @@ function markLessons() {
 
 /** The buttons by which lessons and their parts begin. */
 function drawLessons() {
-  const lessons = lessonsHere(), [{ name, title }, second] = lessons, others = lessons.length - 1;
+  const lessons = lessonsHere(), [{ name, title }, second] = lessons;
   byId('first-lesson').dataset.lesson = name;
   byId('first-lesson').textContent = title;
-  byId('more-lessons').hidden = others === 0;
-  putText(byId('more-lessons'), `${others} more, next: ${second?.title.split(':')[0]}`);
+  byId('more-lessons').hidden = !second;
+  putText(byId('more-lessons'), `Next lesson: ${second?.title.split(':')[0]} (${lessons.length} in all)`);
   const link = (of, at, text, ...parts) => html('li', {}, html('button', { type: 'button', 'data-lesson': of, 'data-step': at, class: 'quiet' }, text), html('span', {}), ...parts);
   byId('lessons').replaceChildren(...lessons.map(each => {
     const parts = each.steps.flatMap(({ title: part }, at) => (part === undefined ? [] : [link(each.name, at, part)]));
@@ -373,7 +383,8 @@ function drawLessons() {
 }
 
 document.addEventListener('click', ({ target }) => {
-  const { lesson: name, step = 0, answer, show: shows } = (target.closest('[data-answer]') ?? target).dataset ?? {};
+  const { lesson: name, step = 0, answer, show: shows, edges } = (target.closest('[data-answer]') ?? target).dataset ?? {};
+  if (edges === 'next' && lesson.told !== null && nextArrow()) setTimeout(focusStep); // then Next
   if (name !== undefined) beginLesson(name, Number(step));
   else if (answer !== undefined) answerLesson(answer);
   else if (shows !== undefined) showInLesson();

@@ -69,6 +69,7 @@ function drawLong(command, answers, options, input) {
 /** Shows the answer to a long command. */
 function showLong(command, answers, options, input) {
   const [answer, beside] = answers, isGood = answer.status === Tso.STATUS.good, isUnended = answer.status === Tso.STATUS.unended;
+  if (command === 'outcomes' && isUnended && answers.at(-1)?.status === Tso.STATUS.good) Object.assign(possible, { test: input, can: JSON.parse(answers.at(-1).text).answer !== 'never' });
   if (command === 'run') showLongRun(answer, beside, options, input);
   else if (command === 'outcomes' && isGood) showOutcomes(answer, beside, input);
   else if (command === 'outcomes' && isUnended) showMet(answer, options.depth);
@@ -88,7 +89,8 @@ function showUnfinished(command, answer) {
 /** What a task is asked: of a run its report and its line, of outcomes and why the answer of sequential consistency too. */
 function questionsOf(command, options) {
   if (command === 'run') return [options, { ...options, json: true }];
-  if (command === 'outcomes') return [{ ...options, json: true }, ...(options.depth > 0 ? [{ ...options, depth: 0, json: true }] : [])];
+  if (command === 'outcomes') return [{ ...options, json: true }, ...(options.depth > 0 ? [{ ...options, depth: 0, json: true, after: Tso.STATUS.good }] : []),
+    ...(whyCan(inputOf('why')) === null ? [{ command: 'why', json: true, after: Tso.STATUS.unended }] : [])];
   if (command === 'counts') return countedProtocols().map(protocol => ({ ...options, protocol, json: true }));
   if (command === 'why') return [{ ...options, json: true }, ...(options.model === 'tso' ? [{ command, json: true, model: 'sc', cases: POSSIBLE_CASES }] : [])];
   return [options];
@@ -131,6 +133,5 @@ function showMet(answer, depth, isStopped = false) {
   showAnswer(isStopped ? { ...answer, hint: '' } : answer); // no limit was met
   foldReport(answer);
   const truths = met.states.every(({ holds }) => typeof holds === 'boolean') ? met.states.map(({ holds }) => holds) : null;
-  const said = html('p', { role: 'status', class: 'is-open' }, metSentence(met, isStopped));
-  byId('states').replaceChildren(answerTitle('Some outcomes'), said, waysOn('outcomes', { isStopped }), ...statesSheet({ ...met, depth }, null, truths));
+  byId('states').replaceChildren(answerTitle('Some outcomes'), ...openVerdict(met.states, metSentence(met, isStopped)), waysOn('outcomes', { isStopped }), ...statesSheet({ ...met, depth }, null, truths));
 }

@@ -36,12 +36,12 @@ function usedRegisters({ programs, proposition, start }, core) {
 }
 
 /** The registers of these names: those that the step wrote (`just`) stand out, and those that none has written look faint. */
-function registerItems(now, before, written, used, just, inLesson) {
+function registerItems(now, before, written, used, just, named) {
   if (used.length === 0) return [html('li', { class: 'faint' }, 'none used')];
   return used.map(name => html('li', {
     ...marked(written.includes(name) ? 'word written' : 'word plain', just.includes(name)),
     title: written.includes(name) ? `An instruction wrote ${name}.` : `No instruction has written ${name} yet.`,
-  }, `${name}${inLesson}=${now[name]}`));
+  }, `${name}${named?.[name] ? ` (${named[name]})` : ''}=${now[name]}`));
 }
 
 /** The stores that wait, the oldest first, after one that left. */
@@ -54,7 +54,7 @@ function bufferItems(now, before, supply) {
 }
 
 function stateCell(state, change) {
-  const badge = withMeaning({ class: `state state-${state[0]}${state.length > 1 ? ' transient' : ''}` }, state, state);
+  const badge = withMeaning({ tabindex: -1, class: `state state-${state[0]}${state.length > 1 ? ' transient' : ''}` }, state, state);
   return change ? html('td', { class: 'changed' }, `${change.before}→`, badge) : html('td', {}, badge);
 }
 
@@ -95,33 +95,34 @@ function buttonTexts(program, { place, buffer }, bus, core) {
   };
 }
 
-/** A part's heading, which says at the pointer what the part is; at the first core at the focus too. */
-const partTitle = (text, isFirst, tag = 'h5') => html(tag, { 'data-means': text, ...(isFirst ? { tabindex: 0, 'aria-label': text, 'aria-description': MEANINGS[text] } : {}) }, text);
+/** A part's heading, which says what the part is. Where it `isStop` a Tab leads to it, and arrows from it to the words there. */
+const partTitle = (text, isStop) => html('h5', { 'data-means': text, tabindex: isStop ? 0 : -1, 'aria-label': text, 'aria-description': MEANINGS[text] }, text);
 
 /** A core's instructions, each with what it does at the pointer; the first of its kind in the test at the focus too. */
 function instructionItems(programs, core) {
-  const before = programs.slice(0, core).flat().map(kindOfInstruction), own = programs[core].map(kindOfInstruction);
+  const before = programs.slice(0, core).flat().map(kindOfInstruction), own = programs[core].map(kindOfInstruction), lines = inC(programs)?.lines[core];
   return programs[core].map((text, at) => {
     const kind = own[at], isFirst = !before.includes(kind) && own.indexOf(kind) === at;
-    const code = isFirst ? withMeaning({}, kind, text, 'code') : html('code', { 'data-means': kind }, text);
-    return html('li', { value: at, ...(kind === 'a fence' ? { 'data-means': kind } : {}) }, code);
+    const code = isFirst ? withMeaning({ tabindex: -1 }, kind, text, 'code') : html('code', { 'data-means': kind }, text);
+    return html('li', { value: at, ...(lines ? { 'data-c': lines[at] } : {}), ...(kind === 'a fence' ? { 'data-means': kind } : {}) }, code);
   });
 }
 
 class CorePanel {
   constructor(core, history) {
-    const { programs, options } = history, title = text => partTitle(text, core === 0);
+    const { programs, options } = history;
     this.core = core;
     this.programs = programs;
     this.program = programs[core];
     this.used = usedRegisters(history, core);
+    this.named = inC(programs)?.names[core];
     this.depth = options.depth;
     this.makeParts(options, instructionItems(programs, core));
     this.element = html('section', { class: 'core', 'data-core': core, 'aria-label': `Core P${core}` },
       html('h4', {}, `P${core}`), html('div', { class: 'core-buttons' }, ...['step', 'drain'].map(way => html('div', { class: 'choice' }, this[way], this.stalls[way]))),
-      html('div', { class: 'of-core' }, title('Program'), this.list, title('Registers'), this.registers.element,
-        title('Store buffer'), this.depth === 0 ? html('p', { class: 'faint' }, 'none') : this.buffer.element),
-      html('div', { class: 'of-caches' }, title('Cache'), this.cache));
+      html('div', { class: 'of-core' }, partTitle('Program', true), this.list, partTitle('Registers'), this.registers.element,
+        partTitle('Store buffer'), this.depth === 0 ? html('p', { class: 'faint' }, 'none') : this.buffer.element),
+      html('div', { class: 'of-caches' }, partTitle('Cache'), this.cache));
   }
 
   makeParts({ sets, ways }, items) {
@@ -136,6 +137,7 @@ class CorePanel {
     const isLong = this.program.length > MOST_LINES;
     const named = { 'aria-label': `Program of P${this.core}`, ...(isLong ? { tabindex: 0 } : {}) };
     this.list = html('ol', { class: isLong ? 'program long' : 'program', start: 0, ...named }, ...items);
+    for (const [name, texts] of [['--code', this.program], ['--c', items.map(({ dataset }) => dataset.c ?? '')]]) this.list.style.setProperty(name, Math.max(0, ...texts.map(text => text.length)));
     this.registers = list('registers', 'Registers', registerItems);
     this.buffer = list('buffer', 'Store buffer, the oldest store first', bufferItems);
     this.lines = new Part(html('tbody', {}), cacheRows);
@@ -145,11 +147,10 @@ class CorePanel {
 
   /** Shows the core as it is after a step and what that step changed. `bus` is the bus where this core holds it, and else null. */
   show(core, old, { bus, changes, hasEnded, isLast, supply }) {
-    const inLesson = isToldInC(this) ? ` (r${this.core})` : '', key = JSON.stringify([core, old, bus, changes, hasEnded, isLast, supply, inLesson]), isBuffer = supply?.from === 'buffer';
+    const key = JSON.stringify([core, old, bus, changes, hasEnded, isLast, supply]), isBuffer = supply?.from === 'buffer';
     if (key === this.key && !this.hasOffered) return;
     this.key = key;
-    this.registers.show(core.registers, old.registers, this.program.slice(0, core.place).flatMap(writtenBy), this.used, core.place === old.place ? [] : writtenBy(this.program[old.place]), inLesson);
-    [...this.list.children].forEach((item, at) => (inLesson ? setAll(item, { 'data-c': inC(this.program[at], this.core) }) : item.removeAttribute('data-c')));
+    this.registers.show(core.registers, old.registers, this.program.slice(0, core.place).flatMap(writtenBy), this.used, core.place === old.place ? [] : writtenBy(this.program[old.place]), this.named);
     this.buffer.show(core.buffer, old.buffer, isBuffer ? supply : null);
     this.lines.show(core.lines, changes, bus?.state?.length > 1 ? { line: bus.line, state: bus.state } : null, isBuffer ? null : supply);
     this.showButtons(core, bus, hasEnded);
@@ -203,7 +204,7 @@ function busItems(bus, step, supply) {
   const held = bus && `P${bus.core} holds the bus for ${lineSaid(bus.line)}` + (bus.state?.length > 1 ? `, and waits for it (${bus.state})` : '');
   const passed = [step?.transaction, step?.flush && `flush ${step.flush}`, step?.write_back && `write-back ${step.write_back}`].filter(Boolean).map(lineSaid);
   const holder = html('span', sourced({ class: held ? 'holder' : '' }, supply), held ?? 'free');
-  return [holder, ...passed.map(text => withMeaning({ class: 'word changed' }, text.split(' ')[0], text))];
+  return [holder, ...passed.map(text => withMeaning({ tabindex: -1, class: 'word changed' }, text.split(' ')[0], text))];
 }
 
 /** Each location's word in memory, and beside it the newest word where a cache has another. Without caches memory has the newest. */
@@ -240,7 +241,8 @@ class MachinePanel {
     this.name = html('h3', { tabindex: -1 });
     this.element = html('section', { class: 'machine', 'aria-label': `The machine: ${machineName(history.options)}` },
       this.name, this.said, html('div', { class: 'cores' }, ...this.panels.map(panel => panel.element)),
-      html('div', { class: 'below' }, html('div', { class: 'of-caches' }, partTitle('Bus', true), this.bus.element, this.tally), html('div', {}, partTitle('Memory', true), this.memory.element)));
+      html('div', { class: 'below' }, html('div', { class: 'of-caches' }, partTitle('Bus'), this.bus.element, this.tally), html('div', {}, partTitle('Memory', true), this.memory.element)));
+    this.element.style.setProperty('--lines', Math.min(MOST_LINES, Math.max(...history.programs.map(program => program.length)))); // so that parts stand at one height
   }
 
   /** Whether this is the panel of such programs on such a machine. */

@@ -20,7 +20,7 @@ const MEANINGS = {
   '\\/': 'Or.',
   seed: 'A number from which choices are drawn at random. The same seed draws the same choices.',
   exercise: 'One file of the whole page, with this test and your question: no choices, no list. All outcomes and why are there after an answer.',
-  lecture: 'Large type. A clicker\'s keys, PageDown and PageUp, step through your list of tests; without one, through this test and the next of the library.',
+  lecture: 'Large type. A clicker\'s keys, PageDown and PageUp, step through the tests that were added; without any, through this one and the next of the library.',
   beside: 'Another machine that makes the same choices, so that one sees what differs.',
   depth: 'How many stores wait at most in a core\'s store buffer. With 0 there is none: that is sequential consistency.',
   protocol: 'The rules by which caches keep their copies in step: MSI, MESI, MOESI or MOSI, after the states that a line has.',
@@ -53,7 +53,7 @@ const INSTRUCTIONS = [
   ['a locked operation', /^LOCK\b/i, 'In one step: reads the location, computes, and writes it. No other core comes between, and the store buffer has to be empty before.'],
   ['a store', /^MOV\s+\[/i, 'A store: the value goes into the store buffer of this core, and to memory later, when it drains.'],
   ['a load', /^MOV\b.*\[/i, 'A load: the register gets the newest own store to the location that waits in the buffer, and else memory\'s word.'],
-  ['a fence', /^MFENCE\b/i, 'A fence: it waits until the store buffer of its core is empty. In C it is atomic_thread_fence(memory_order_seq_cst), here “fence;”.'],
+  ['a fence', /^MFENCE\b/i, 'A fence: it waits until the store buffer of its core is empty. In C it is atomic_thread_fence(\u200bmemory_order_seq_cst).'],
   ['an instruction that does nothing', /^NOP\b/i, 'It does nothing. PAUSE, LFENCE and SFENCE are read as this one: under TSO they add nothing.'],
   ['register arithmetic', /^/, 'Changes registers of this core alone. Memory and other cores don\'t see it.'],
 ];
@@ -64,16 +64,16 @@ const kindOfInstruction = text => INSTRUCTIONS.find(([, form]) => form.test(text
 /** A word with its meaning at hover and focus; `shown` is what stands there, and `name` the word of the table. */
 function withMeaning(attributes, name, shown, tag = 'span') {
   const meaning = MEANINGS[name];
-  return html(tag, meaning === undefined ? attributes : { ...attributes, tabindex: 0, role: 'note', 'data-means': name, 'aria-label': `${shown}. ${meaning}` }, shown);
+  return html(tag, meaning === undefined ? attributes : { tabindex: 0, ...attributes, role: 'note', 'data-means': name, 'aria-label': `${shown}. ${meaning}` }, shown);
 }
 
 /** Puts a sentence into an element, where it isn't that already: a condition's signs have their meanings. */
 function putCondition(element, sentence) {
   const parts = sentence.split(/(~?exists(?= \()|forall(?= \()|\/\\|\\\/)/);
-  if (element.textContent !== sentence) element.replaceChildren(...parts.map((part, at) => (at % 2 ? withMeaning({}, part, part) : part)));
+  if (element.textContent !== sentence) element.replaceChildren(...parts.map((part, at) => (at % 2 ? withMeaning({ tabindex: -1 }, part, part) : part)));
 }
 
-/** Where the pointer was last. A browser also tells that it came to something when the page changed below it and it itself rested. */
+/** Where the pointer was last. A browser also tells that it came to something when the page changed below it. */
 const pointerWas = { x: -1, y: -1 };
 
 /** Whether an event is one of a pointer that rests. */
@@ -84,8 +84,7 @@ function isAtRest({ type, screenX: x, screenY: y }) {
   return rests;
 }
 
-/** Shows what the word under the pointer or the focus means, directly below it. What changes under a pointer which rests shows nothing, and
- * hides nothing that the focus shows. */
+/** Shows below a word what it means, at the pointer or the focus. What changes under a pointer that rests does nothing. */
 function showMeaning(event) {
   const word = event.target.closest?.('[data-means]'), box = byId('meaning');
   if (isAtRest(event) || (!word && box.dataset.by !== event.type)) return;
@@ -102,3 +101,12 @@ for (const kind of ['pointerover', 'focusin']) document.addEventListener(kind, s
 document.addEventListener('focusout', () => { byId('meaning').hidden = true; });
 for (const kind of ['keydown', 'click']) document.addEventListener(kind, () => { byId('meaning').hidden = true; });
 document.addEventListener('pointermove', ({ screenX: x, screenY: y }) => Object.assign(pointerWas, { x, y }), { passive: true });
+
+/** Down and up lead to the other words of a core, of memory, or of the picture: one Tab stop has all of these. */
+document.addEventListener('keydown', event => {
+  const way = { ArrowDown: 1, ArrowUp: -1 }[event.key], group = way && event.target.matches('[data-means]') && event.target.closest('.core, .below, .beside');
+  if (!group) return;
+  const words = [...group.querySelectorAll('[data-means][tabindex]')].filter(word => word.checkVisibility());
+  words[words.indexOf(event.target) + way]?.focus();
+  event.preventDefault();
+});

@@ -45,13 +45,10 @@ function metSentence({ states, verdict, unfinished }, isStopped) {
   return `${met}; there may be others.${decidedWords(states)}${verdictWords(verdict)}`;
 }
 
-/** What outcomes that were met decide of the condition; empty where that isn't told. */
+/** That outcomes that were met leave the condition open; empty where they don't, or that isn't told. */
 function decidedWords(states) {
   const quantifier = quantifierOf(byId('test').value), isForall = quantifier === 'forall';
-  if (quantifier === null || !states.every(({ holds }) => typeof holds === 'boolean')) return '';
-  const isDecided = states.some(({ holds }) => holds !== isForall), found = whySaid();
-  const decided = isForall ? 'One of them isn\'t as the condition says: so not each run ends so' : 'One of them meets the condition: yes, it can be';
-  return ` ${isDecided ? decided : `${isForall ? 'All' : 'None'} of them ${isForall ? 'meet' : 'meets'} the condition, ${found === null ? 'which decides nothing' : `and “why” has ${found}`}`}.`;
+  return quantifier === null || states.some(({ holds }) => holds !== isForall) ? '' : ` ${isForall ? 'All of them meet' : 'None of them meets'} the condition, which alone decides nothing.`;
 }
 
 const valuesText = values => Object.entries(values).map(([name, word]) => `${name}=${word}`).join(' ');
@@ -114,9 +111,9 @@ function outcomesTable(outcomes, sequential, truths) {
   const sheet = tableOf('Final states', titles, states.map(({ values }, at) => html('tr', truths?.[at] ? { class: 'met' } : {},
     ...names.map(name => html('td', { class: 'number', 'data-name': name }, String(values[name]))),
     ...(sequential ? [html('td', { class: 'unbroken' }, isNew[at] ? html('strong', {}, 'TSO alone') : 'TSO and SC')] : []),
-    ...(truths ? [html('td', {}, truths[at] ? '✓ true' : 'false')] : []),
+    ...(truths ? [html('td', { class: truths[at] ? '' : 'faint' }, truths[at] ? '✓ true' : 'false')] : []),
     html('td', { class: 'wraps way' }, ...foldedChoices(ways[at])),
-    html('td', {}, html('button', { type: 'button', 'data-choices': ways[at], 'data-depth': depth, 'aria-label': `Run to ${valuesText(values)}` }, 'Run them')))));
+    html('td', {}, html('button', { type: 'button', class: 'goes', 'data-choices': ways[at], 'data-depth': depth, 'aria-label': `Run to ${valuesText(values)}` }, 'Run them')))));
   if (outcomes.unfinished === undefined) sheet.querySelector('table').append(...neverRow(names, titles.length, truths));
   return sheet;
 }

@@ -108,7 +108,7 @@ const canAsk = () => bench.tso !== null && lesson.told === null && !isUnanswered
 
 document.addEventListener('keydown', event => {
   if (event.ctrlKey && event.key === 'Enter' && canAsk()) ask(askedNext());
-  const isForOthers = event.target.matches('textarea, input, select') || event.ctrlKey || event.altKey || event.metaKey || (event.shiftKey && event.key !== '+');
+  const isForOthers = event.target.matches('textarea, select, input:not([type=checkbox])') || event.ctrlKey || event.altKey || event.metaKey || (event.shiftKey && event.key !== '+');
   if (!isForOthers && ASK_KEYS[event.key] && canAsk() && byId('letter-keys').checked) return ask(ASK_KEYS[event.key]);
   if (isForOthers || !(shown.run || drive.isOn)) return;
   if (KEYS[event.key] && isAsked() && answerByKey(event.key)) return event.preventDefault();

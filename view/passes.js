@@ -2,7 +2,7 @@
 
 // What loads passed so far: a list that grows with the order. Its items stay, so that a step costs what it adds.
 
-/** The run at a depth in which cores step in turn and drain last, so that each load passes that can, with its choices; null where one stalls. */
+/** The run in which cores step in turn and drain last, so that each load passes that can, with its choices; null where one stalls. */
 function lateRun(programs, depth) {
   const wordsOf = (text, at, core) => [[at, `${core}s`], ...(/^MOV\s+\[/i.test(text) ? [[MOST.instructions, `${core}d`]] : [])];
   const words = programs.flatMap((program, core) => program.flatMap((text, at) => wordsOf(text, at, core))).sort(([one], [other]) => one - other);

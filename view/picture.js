@@ -2,27 +2,29 @@
 
 // The picture. All measures are pixels.
 
-const GUTTER = 34, HEAD = 34, ROW = 56, BOX = 46, FRAME = 5, MARGIN = 28, INSET = 6;
+const GUTTER = 34, HEAD = 34, ROW = 56, BETWEEN = 10, FRAME = 5, MARGIN = 28, INSET = 6;
+const FEW = { rows: 6, row: 66, high: 372, width: 400 }; // so few rows are higher
 const LANE = { most: 300, large: 220, box: 210, least: 66 }; // the last two are of a box in it
 const TRACK = { most: 11, room: 44 };
 const PAPER = { whole: 24, piece: 8 }; // rows: of a picture that goes on one page, of a piece of a longer one
-const LEAST_FONT = 9, NOTE_FONT = 12;
+const LEAST_FONT = 12, NOTE_FONT = 12, RING = 12; // words keep off it
 const GLYPH = 0.61; // the width of a letter of the fixed fonts, for a size of 1
 
 /** Where everything stands in a picture of at most this width, or as narrow as a lane may be. */
-function layoutOf({ cores, tracks, order }, width) {
+function layoutOf({ cores, tracks, order, programs }, width) {
   const pitch = Math.min(TRACK.most, TRACK.room / Math.max(1, tracks));
   const inner = INSET + tracks * pitch + 18;
   const lane = Math.min(LANE.most, Math.max(inner + LANE.least + MARGIN, Math.floor((width - GUTTER - 2) / cores)));
   const left = core => GUTTER + core * lane;
-  const top = moment => HEAD + moment * ROW;
+  const rows = programs ? mostRows(programs) : order.length, row = rows <= FEW.rows && width >= FEW.width && !isLecture() ? Math.min(FEW.row, FEW.high / rows) : ROW;
+  const top = moment => HEAD + moment * row;
   const box = Math.min(LANE.box, lane - inner - MARGIN), large = lane >= LANE.large;
   return {
-    tracks, pitch, lane, inner, left, top, label: large ? 17 : 13,
+    tracks, pitch, lane, inner, left, top, row, label: large ? 17 : 13,
     width: GUTTER + cores * lane + 2, height: top(order.length) + 2,
     middle: entry => top(entry.index + 0.5),
     trackOf: store => left(store.core) + INSET + (store.track + 0.5) * pitch,
-    boxOf: entry => ({ x: left(entry.core) + inner, y: top(entry.index) + (ROW - BOX) / 2, width: box, height: BOX }),
+    boxOf: entry => ({ x: left(entry.core) + inner, y: top(entry.index) + BETWEEN / 2, width: box, height: row - BETWEEN }),
   };
 }
 
@@ -82,7 +84,7 @@ function drawGrid(run, layout, entries) {
 /** Over a store's bar: its name, or its place beside other bars. */
 function nameOverBar({ tracks, trackOf, left }, store, top) {
   const isAlone = tracks < 2;
-  return isAlone ? textAt({ class: 'faint', x: left(store.core) + 3, y: top + 13, 'text-anchor': 'start' }, NOTE_FONT, nameOf(store)) :
+  return isAlone ? textAt({ x: left(store.core) + 3, y: top + 13, 'text-anchor': 'start' }, NOTE_FONT, nameOf(store)) :
     textAt({ class: 'faint', x: trackOf(store), y: top + 13 }, NOTE_FONT, String(store.place));
 }
 
@@ -101,7 +103,7 @@ function drawWait(run, layout, store) {
   return svg('g', { class: 'wait', 'data-earliest': earliest, 'data-latest': latest, 'data-seen': store.index }, ...parts);
 }
 
-/** From the write's box, or from its bar where it still waits, to the read's box. */
+/** From the write's box, or its bar, to the read's box. */
 function arrowPath(layout, source, read) {
   const from = sidesOf(layout, source), to = sidesOf(layout, read);
   const start = layout.middle(source), end = layout.middle(read);
@@ -137,18 +139,18 @@ function drawEntry(run, layout, entry) {
   const box = layout.boxOf(entry);
   const { passed } = entry;
   const kind = isWrite(entry) ? 'store' : passed.length > 0 ? 'load passed' : 'load';
-  const room = box.width - 10, letters = Math.floor(room / (LEAST_FONT * GLYPH));
+  const room = box.width - 10, letters = Math.floor(room / (LEAST_FONT * GLYPH)), noted = box.width - 2 * RING;
   const x = box.x + box.width / 2;
   return svg('g', { class: kind, 'data-entry': entry.index, 'data-passed': passed.map(store => store.index).join(' ') },
     svg('title', {}, sentenceOf(run, entry)),
     svg('rect', { ...box, rx: isRead(entry) ? 16 : 2 }),
-    fittingText({ class: 'note', x, y: box.y + 18 }, NOTE_FONT, noteOf(entry, letters - 2), room - 2),
-    fittingText({ x, y: box.y + 37 }, layout.label, labelOf(entry, letters), room));
+    fittingText({ class: 'note', x, y: box.y + 0.4 * box.height }, NOTE_FONT, noteOf(entry, Math.floor(noted / (NOTE_FONT * GLYPH))), noted),
+    fittingText({ x, y: box.y + 0.8 * box.height }, layout.label, labelOf(entry, letters), room));
 }
 
 function drawFrame(layout, load) {
   const { left, right } = sidesOf(layout, load);
-  const place = { x: left, y: layout.top(load.index) + 2, width: right - left, height: 2 * ROW - 4, rx: 4 };
+  const place = { x: left, y: layout.top(load.index) + 2, width: right - left, height: 2 * layout.row - 4, rx: 4 };
   return svg('rect', { class: 'frame', 'data-locked': load.index, ...place });
 }
 
@@ -168,7 +170,7 @@ function drawPicture(run, layout, first = 0, end = run.order.length) {
   const entries = run.order.filter(entry => isIn(entry.index));
   const label = `Memory order of ${run.test}: ${run.order.length} entries of ${run.cores} cores. "The order in words" says the same.`;
   return svg('svg', { class: 'picture', width, height, viewBox: `0 ${above} ${width} ${height}`, role: 'img', 'aria-label': label },
-    svg('rect', { class: 'band', x: 0, width, height: ROW }),
+    svg('rect', { class: 'band', x: 0, width, height: layout.row }),
     drawGrid(run, layout, entries),
     ...run.order.filter(entry => entry.kind === 'LR' && isIn(entry.index, entry.index + 1)).map(load => drawFrame(layout, load)),
     ...stores.reverse().map(store => drawWait(run, layout, store)), // a store's way goes over the bars of later ones
@@ -179,7 +181,7 @@ function drawPicture(run, layout, first = 0, end = run.order.length) {
     svg('line', { class: 'cursor', x1: 0, x2: width }));
 }
 
-/** For paper: a picture that doesn't go on one page, in pieces of whole rows, between which a page may end. */
+/** For paper: a picture in pieces of whole rows. */
 function drawPieces(run, layout) {
   const starts = run.order.map(entry => entry.index).filter(index => index % PAPER.piece === 0);
   return starts.map(first => drawPicture(run, layout, first, Math.min(first + PAPER.piece, run.order.length)));

@@ -6,7 +6,7 @@
  * behind; and the addresses of entries left changed. */
 const playlist = { at: -1, said: null, where: '', isFromBehind: false, left: new WeakMap() };
 
-const LIST_END = 'The end of the list';
+const LIST_END = 'The end of the lecture';
 const MOST_NAME = 80; // characters of an entry's name
 const MOST_LISTED = 400000; // characters of a list that the browser keeps
 
@@ -32,15 +32,31 @@ function takeKnownChoices() {
   goTo(0);
 }
 
-function addToList() {
+function addToList(before = taught.list.length) {
   takeKnownChoices();
   const one = entryNow(), at = taught.list.findIndex(({ address }) => address === one.address), isThere = at >= 0;
-  if (!isThere && taught.list.length >= MOST_TAUGHT.tests) return sayListed(`The list has ${MOST_TAUGHT.tests} tests, and takes no more.`);
-  if (!isThere) taught.list = [...taught.list, one];
-  playlist.at = isThere ? at : taught.list.length - 1;
+  if (!isThere && taught.list.length >= MOST_TAUGHT.tests) return sayListed(`The lecture has ${MOST_TAUGHT.tests} entries, and takes no more.`);
+  if (!isThere) taught.list = taught.list.toSpliced(before, 0, one);
+  playlist.at = isThere ? at : before;
   drawList();
-  const unstepped = isUnstepped() ? ' No choices: PageDown goes to the next test.' : '';
-  sayListed(`${isThere ? 'It is there already, as' : 'Added as'} ${playlist.at + 1}: ${shortName(one)}.${unstepped} The list goes when the page is closed: “Save as a page” keeps it in a file.`);
+  const steps = isUnstepped() ? ' No choices to step.' : '';
+  sayListed(`${isThere ? 'It is there already, as' : 'Added as'} ${playlist.at + 1}: ${shortName(one)}.${steps} Closing this tab loses the lecture: save it as a page.`);
+  byId('list-part').scrollIntoView({ block: 'nearest' });
+  if (currentCommand() === 'why' && !isListed('run')) document.querySelector('#way-back .listed').append(' ', listButton({ 'data-add-run': '', class: 'quiet' }, 'Add the run too'));
+}
+
+/** Whether an entry has the test that is shown, with this command. */
+function hasShown({ address }, command) {
+  const told = new URLSearchParams(address);
+  return told.get('test') === byId('test').value && (!command || commandOf(told.get('command')) === command);
+}
+
+const isListed = command => taught.list.some(entry => hasShown(entry, command));
+
+function addRun() {
+  const { at } = playlist;
+  backToRun();
+  addToList(at);
 }
 
 function updateListed() {
@@ -59,9 +75,7 @@ function sayListed(sentence) {
 /** Whether what is shown is of the test, and of the command too, of the entry that was opened or added last. */
 function isOfEntry(isOfCommand = true) {
   const entry = taught.list[playlist.at];
-  if (entry === undefined) return false;
-  const told = new URLSearchParams(entry.address);
-  return told.get('test') === byId('test').value && (!isOfCommand || commandOf(told.get('command')) === currentCommand());
+  return entry !== undefined && hasShown(entry, isOfCommand && currentCommand());
 }
 
 const withoutPlace = address => address.replace(/&at=\d+/, ''); // in its run
@@ -70,7 +84,7 @@ const isChangedEntry = () => !isLecture() && isOfEntry() && withoutPlace(taught.
 
 const isToUpdate = () => isChangedEntry() && !isExercise();
 
-/** Keeps what is said of the list with what is shown: notes of something else go, and an entry that was changed can be put anew. */
+/** Keeps what is said of the list with what is shown: other notes go, and a changed entry can be put anew. */
 function followShown() {
   const isChanged = isToUpdate(), part = byId('list-part'), place = byId(byId('run').hidden ? 'way-back' : 'saves');
   if (part.parentElement !== place) place.append(part); // where one adds
@@ -82,12 +96,12 @@ function followShown() {
   if (playlist.where !== (isLecture() ? footSaid() : whereInList())) drawBar();
 }
 
-/** What the browser keeps with the address, so that it is there again after a reload: the list, which of it is shown, and whether in a lecture. */
+/** What the browser keeps for a reload: the list, which of it is shown, and whether in a lecture. */
 const listToKeep = () => ({ list: JSON.stringify(taught.list).length <= MOST_LISTED ? taught.list : [], listed: playlist.at, isLecture: isLecture() });
 
 const keepList = () => window.history.replaceState({ ...window.history.state, ...listToKeep() }, '');
 
-/** Takes the list from what the browser kept, after a reload, and goes on with the lecture, if there was one. */
+/** Takes the kept list after a reload, and goes on with the lecture, if there was one. */
 function takeKeptList({ list, listed, isLecture: wasLecture }) {
   if (Array.isArray(list) && list.length > 0) tryTaught(JSON.stringify({ list }), () => {});
   if (Number.isInteger(listed)) playlist.at = Math.min(Math.max(-1, listed), taught.list.length - 1);
@@ -109,8 +123,8 @@ function raiseInList(at) {
   drawList();
 }
 
-/** Opens a test of the list: a run before its first choice, so that one goes through it, or at its end (`isAtEnd`) for who goes back. One that
- * was left changed is so still, but not in a lecture. */
+/** Opens a test of the list: a run at its start, or at its end (`isAtEnd`) for who goes back. One left changed is so still, but not in a
+ * lecture. */
 function openListed(at, isAtEnd = false) {
   const entries = toGoThrough();
   if (entries[at] === undefined) return;
@@ -139,13 +153,13 @@ function whereInList() {
   const { list } = taught, { at } = playlist, place = `${at + 1} of ${list.length}`, all = `${list.length} ${list.length === 1 ? 'entry' : 'entries'}`;
   if (at < 0) return all;
   if (isOfEntry()) return `${place}${isToUpdate() ? ', changed' : ''}: ${list[at].name}`;
-  return isOfEntry(false) ? `${place}: ${plainName(list[at])}, ${currentCommand()}` : `Not in the list of ${all}`;
+  return isOfEntry(false) ? `${place}: ${plainName(list[at])}, ${currentCommand()}` : `Not in the lecture of ${all}`;
 }
 
 const plainName = ({ name }) => name.split(':')[0];
 
-/** The bar over the machine: which entry is shown, if one is, and the ways to the one before and the next. In a lecture it is the foot, which says
- * what PageDown does; there names tell no answer. */
+/** The bar over the machine: which entry is shown, and the ways to the one before and the next. In a lecture the foot, which says what
+ * PageDown does; there names tell no answer. */
 function drawBar() {
   const { list } = taught, { at } = playlist, isEnd = at + 1 >= list.length;
   byId('list-bar').hidden = list.length === 0 && !isLecture();
@@ -173,7 +187,7 @@ function drawList() {
   sayListed('');
   const { list } = taught;
   byId('list-part').hidden = list.length === 0;
-  putText(byId('list-said'), `List: ${list.map((each, at) => `${at + 1} ${shortName(each)}`).join(' · ')}`);
+  putText(byId('list-said'), `Lecture: ${list.map((each, at) => `${at + 1} ${shortName(each)}`).join(' · ')}`);
   document.querySelectorAll('[data-lecture]').forEach(nameLecture);
   byId('save-exercises').hidden = list.length < 2;
   drawBar();
@@ -181,12 +195,12 @@ function drawList() {
     ' ', listButton({ 'data-raised': each, class: 'quiet', 'aria-label': `Move ${name} up` }, 'up', each === 0),
     ' ', listButton({ 'data-raised': each + 1, class: 'quiet', 'aria-label': `Move ${name} down` }, 'down', each === list.length - 1),
     ' ', listButton({ 'data-renamed': each, class: 'quiet', 'aria-label': `Rename ${name}` }, 'rename'),
-    ' ', listButton({ 'data-unlisted': each, class: 'quiet', 'aria-label': `Take ${name} off the list` }, 'take off'))));
+    ' ', listButton({ 'data-unlisted': each, class: 'quiet', 'aria-label': `Take ${name} off the lecture` }, 'take off'))));
   followShown();
 }
 
 function renameListed(at) {
-  const item = byId('list').children[at], named = { 'aria-label': 'Name in the list', 'data-name-of': at };
+  const item = byId('list').children[at], named = { 'aria-label': 'Name in the lecture', 'data-name-of': at };
   const field = html('input', { type: 'text', inputmode: 'text', maxlength: MOST_NAME, ...named });
   field.value = taught.list[at].name;
   item.firstElementChild.replaceWith(field);
@@ -213,5 +227,6 @@ document.addEventListener('click', ({ target }) => {
 });
 document.addEventListener('click', ({ target }) => {
   if (target.matches('[data-add-to-list]')) addToList();
+  else if (target.matches('[data-add-run]')) addRun();
   else if (target.matches('[data-update-list]')) updateListed();
 });

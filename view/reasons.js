@@ -259,3 +259,9 @@ function executionTables({ sources, coherence, values }) {
     tableOf('Final values', ['Place', 'Value'], Object.entries(values).map(([place, word]) => row(placeName(place), String(word)))),
   ];
 }
+
+/** Says under an answer as text which of its words the picture has otherwise. */
+function putReportKey(text) {
+  const key = byId('report-part').querySelector('.report-key') ?? byId('report-part').appendChild(html('p', { class: 'small report-key' }));
+  putText(key, currentCommand() === 'why' && text.includes('implied') ? '“implied” is “lock” in the picture.' : '');
+}

@@ -121,9 +121,10 @@ function chipAt(layout, [x, y], letters) {
   return { x: centre - width / 2, y: y - ROUTES.chip / 2, width, height: ROUTES.chip };
 }
 
-/** Of a way's points those that a chip may stand at: near its start first, since ways cross in the middle. */
-function chipPoints(points) {
-  const parts = [0.24, 0.3, 0.18, 0.36, 0.42, 0.5, 0.58, 0.66, 0.74, 0.82, 0.12, 0.27, 0.21, 0.33, 0.39, 0.46, 0.54, 0.62, 0.7, 0.78, 0.86, 0.9];
+/** Of a way's points those that a chip may stand at: of a way within a core its middle first, of others those near the start, since these ways cross in
+ * the middle. */
+function chipPoints(points, isWithin) {
+  const parts = [...(isWithin ? [0.5, 0.46, 0.54] : []), 0.24, 0.3, 0.18, 0.36, 0.42, 0.5, 0.58, 0.66, 0.74, 0.82, 0.12, 0.27, 0.21, 0.33, 0.39, 0.46, 0.54, 0.62, 0.7, 0.78, 0.86, 0.9];
   return parts.map(part => points[Math.round(part * (points.length - 1))]);
 }
 
@@ -131,10 +132,10 @@ function chipPoints(points) {
 function chipsOf(layout, edges, ways) {
   const chips = [];
   let covered = 0;
-  edges.forEach((_, at) => {
-    const others = ways.filter((_, other) => other !== at).flatMap(({ points }) => points);
+  edges.forEach(({ from, to }, at) => {
+    const isWithin = eventOf(from).core === eventOf(to).core, others = ways.filter((_, other) => other !== at).flatMap(({ points }) => points);
     const cost = chip => 100 * layout.words.filter(part => overlap(chip, part)).length + 400 * [...layout.boxes.values()].filter(part => overlap(chip, part)).length + 50 * chips.filter(other => overlap(chip, other)).length + others.filter(point => holds(chip, point)).length;
-    const found = chipPoints(ways[at].points).map(point => chipAt(layout, point, lettersAt(edges, at, layout.isNarrow).length)).map(chip => ({ chip, cost: cost(chip) }));
+    const found = chipPoints(ways[at].points, isWithin).map(point => chipAt(layout, point, lettersAt(edges, at, layout.isNarrow).length)).map(chip => ({ chip, cost: cost(chip) }));
     const { chip, cost: least } = found.reduce((best, each) => (each.cost < best.cost ? each : best));
     covered += least;
     chips.push(chip);

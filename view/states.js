@@ -15,6 +15,7 @@ function hasWords(row, titles, words) {
 }
 
 const FEW_ROWS = 50; // that a long table shows at first
+const FEW_COLUMNS = 6; // places in a table that has the programs beside it
 
 /** Shows the rows that the sheet's filter finds, of many the first ones, and says how many these are. */
 function filterStates(sheet) {
@@ -67,9 +68,10 @@ function keySaid(names) {
 function statesSheet(outcomes, sequential, truths) {
   const table = outcomesTable(outcomes, sequential, truths);
   for (const head of [...table.querySelectorAll('thead th')].slice(0, -1)) head.replaceChildren(html('button', { type: 'button', class: 'sorts' }, head.textContent));
+  const { programs: told } = readTest(inputOf('outcomes')), names = inC(told)?.names ?? [];
   for (const head of table.querySelectorAll('thead th')) {
-    const [, core] = /^(\d):EAX$/.exec(head.textContent) ?? [];
-    if (core && isToldInC(readTest(inputOf('outcomes')))) head.dataset.c = ` (r${core})`;
+    const [core, register] = head.textContent.split(':'), named = names[core]?.[register];
+    if (named) head.dataset.c = ` (${named})`;
   }
   for (const button of table.querySelectorAll('thead .sorts')) if (Object.hasOwn(MEANINGS, button.textContent)) button.dataset.means = button.textContent;
   const filter = html('input', { class: 'filter', type: 'search', autocomplete: 'off', placeholder: '0:EAX=1' });
@@ -79,8 +81,10 @@ function statesSheet(outcomes, sequential, truths) {
   const isAlone = sequential !== null && newStates(outcomes, sequential).includes(true);
   const words = sequential ? [html('p', { class: 'small faint alone-said' }, `${isAlone ? '“TSO alone”: it needs store buffers. ' : ''}SC is sequential consistency: no store buffers.`)] : [];
   const key = html('p', { class: 'small faint key' }, keySaid(Object.keys(outcomes.states[0].values)));
-  const programs = html('p', { class: 'programs' }, ...programLines(readTest(inputOf('outcomes')).programs));
-  const sheet = html('div', { class: 'states-sheet' }, programs, html('div', { class: 'states-told' }, ...(outcomes.states.length > 1 ? [tools] : []), ...depthNote(outcomes), table, more, ...words, key));
+  const programs = html('p', { class: 'programs' }, ...programLines(told));
+  const isBroad = Object.keys(outcomes.states[0].values).length > FEW_COLUMNS || programs.childElementCount > MANY_CORES;
+  const sheet = html('div', { class: isBroad ? 'states-sheet broad' : 'states-sheet' }, programs,
+    html('div', { class: 'states-told' }, ...(outcomes.states.length > 1 ? [tools] : []), table, more), html('div', { class: 'states-notes' }, ...words, key, ...depthNote(outcomes)));
   if (outcomes.states.length > 1) filterStates(sheet);
   return [sheet];
 }

@@ -30,7 +30,12 @@ function climb(tso, rungs, input, pass) {
 onmessage = async ({ data: { bytes, questions, input } }) => {
   try {
     const tso = await Tso.of(bytes);
-    postMessage({ answers: questions.map((rungs, pass) => climb(tso, rungs, input, pass)) });
+    const answers = [];
+    for (const [pass, rungs] of questions.entries()) {
+      const { after } = rungs[0];
+      answers.push(after === undefined || after === answers[0].status ? climb(tso, rungs, input, pass) : null);
+    }
+    postMessage({ answers });
   } catch (fault) {
     postMessage({ fault: String(fault) });
   }
@@ -46,8 +51,8 @@ const workerPolicy = window.trustedTypes?.createPolicy('worker', {
 });
 
 /** Begins to answer questions, each some options, on an input: `answers` is a promise, and `stop` ends the work, so that the
- * promise is never kept. `tell` is told how far the work came,
- * with the answer of the limit that was met last. */
+ * promise is never kept. A question with a status as its `after` is asked where the first answer has that one, and else answered by null.
+ * `tell` is told how far the work came, with the answer of the limit that was met last. */
 function beginTask(bytes, questions, input, tell = () => {}) {
   const address = URL.createObjectURL(new Blob([WORK], { type: 'text/javascript' }));
   const worker = new Worker(workerPolicy?.createScriptURL(address) ?? address);

@@ -10,6 +10,19 @@ function whySaid() {
   return possible.refuted === test ? `shown that ${never}` : possible.found === test ? 'found a run that ends as the condition asks' : null;
 }
 
+/** Whether `why`, in sight or behind, found that what a test asks for can be; null where it told nothing. */
+const whyCan = test => (possible.refuted === test ? false : possible.found === test || (possible.test === test && !isUnanswered() ? possible.can : null));
+
+/** Above what is said of a search that didn't end (`sentence`) the answer to the condition, where what was met (`states`), or `why`, decides it. */
+function openVerdict(states, sentence) {
+  const test = inputOf('why'), quantifier = quantifierOf(test), isForall = quantifier === 'forall', known = currentCommand() === 'why' ? null : whyCan(test);
+  const can = states.some(({ holds }) => holds === !isForall) || (known === true && valueOf('searched') !== SET_AT_FIRST.searched ? null : known); // a run of `why` may need deep buffers
+  if (quantifier === null || can === null) return [html('p', { role: 'status', class: 'is-open' }, sentence)];
+  const wanted = wantedWords(readTest(test).proposition), end = wanted === null ? 'as the condition says' : `with ${wantedSentence(wanted)}`;
+  const verdict = can !== isForall ? `Yes: ${can ? 'a' : 'each'} run ends ${end}.` : `No: ${can ? 'not each' : 'no'} run ends ${end}.`;
+  return [html('p', { role: 'status' }, verdictOf(verdict)), html('p', {}, sentence)];
+}
+
 /** What one can do where a limit was too low, or where somebody stopped the work (`met` final states are known then): buttons and words. */
 function waysOn(command, { isStopped = false, met = 0, among } = {}) {
   const found = whySaid(), name = LIMIT_OF[command], most = Number(settingOf(name).max), next = Math.min(most, MORE * valueOf(name));
@@ -34,7 +47,8 @@ const UNFINISHED = {
 
 /** A sheet for a search that met its limit before it had a final state. */
 function unfinishedParts(command) {
-  return [answerTitle('Not finished'), html('p', { role: 'status', class: 'is-open' }, UNFINISHED[command](valueOf(LIMIT_OF[command]).toLocaleString('en'))), waysOn(command)];
+  const sentence = UNFINISHED[command](valueOf(LIMIT_OF[command]).toLocaleString('en'));
+  return [answerTitle('Not finished'), ...openVerdict([], sentence), waysOn(command)];
 }
 
 document.addEventListener('click', ({ target }) => {

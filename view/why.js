@@ -2,8 +2,8 @@
 
 // The sheet of `why`: what was asked, and why it can't be, or how it can.
 
-/** The sheet that is shown: the answer, the programs, and the cycle that is drawn. */
-const sheet = { told: null, programs: null, cycle: null };
+/** The sheet that is shown: the answer, the programs, the cycle that is drawn, and how events are named (`key`). */
+const sheet = { told: null, programs: null, cycle: null, key: '' };
 
 /** Whether a module answers `why`, tried on the first test. */
 function tellsWhy(tso) {
@@ -53,25 +53,27 @@ function showReason(answer, test, beside) {
   const told = JSON.parse(answer.text), { programs, proposition } = readTest(test);
   showAnswer(answer);
   foldReport(answer);
-  Object.assign(sheet, { told, programs, test, cycle: null });
+  Object.assign(sheet, { told, programs, test, cycle: null, key: eventsSaid(answer.text) + readAsSaid(test) });
   const isTso = told.model === 'tso', can = told.answer !== 'never';
   if (!can && isTso) possible.refuted = test;
   if (can && isTso && told.asked?.truth === true) possible.found = test;
-  const parts = told.answer === 'never' ? refutedParts(told) : allowedParts(told, programs, proposition, beside);
+  const { said = [], drawn, run = [], more = [] } = can ? allowedParts(told, programs, proposition, beside) : { drawn: refutedParts(told) };
   const title = !can ? 'Why it can\'t be' : told.asked === null ? 'How it may end' : 'How it can be';
   const early = told.asked === null ? {} : { 'data-early': '' }; // a lecture shows it with the last arrow
   const heading = answerTitle(title);
   setAll(heading, early);
   const section = html('section', { class: 'reason', 'aria-label': 'Why' }, heading,
     html('p', { role: 'status' }, ...(isTso ? judgeThought(can) : []), verdictOf(plainAnswer(told, proposition), early)),
-    ...enoughPart(told, test, proposition), html('p', { class: 'small faint' }, eventsSaid(answer.text) + readAsSaid(test)), ...countsOffer(), ...parts);
+    ...enoughPart(told, test, proposition), ...said, ...drawn, ...countsOffer());
   byId('states').replaceChildren(section);
   const [first, second] = told.answer === 'never' ? cyclesOf(told.steps) : [];
   if (first) drawCycle(first.at);
   if (!second) section.querySelector('[data-cycle]')?.remove(); // the one that is drawn
   showQuestion(test);
   showFromBehind();
-  section.append(inTerms(reasonSentence(told, proposition)), sheetTools(section.querySelector('figure') !== null));
+  const isDrawn = section.querySelector('figure') !== null, terms = html('p', { class: 'terms' }, html('strong', {}, 'In litmus terms: '), reasonSentence(told, proposition));
+  if (!isDrawn) section.querySelector('[role=status]').after(html('p', { class: 'small faint' }, sheet.key));
+  section.append(sheetTools(isDrawn, run), html('details', { class: 'in-tables' }, html('summary', {}, 'More about this answer'), ...more, terms));
 }
 
 /** An answer's first sentence, with a sign before a yes and a no. */
@@ -108,16 +110,16 @@ function countsOffer() {
   return [html('p', { class: 'buttons counts-offer' }, ...buttons, html('span', {}, `This sheet speaks of values alone. ${where}`))];
 }
 
-/** Buttons that save what the sheet draws, the choice of its colours, and the one for a lecture. */
-function sheetTools(isDrawn) {
+/** What can be done with the sheet: its run made, what it draws saved in the colours that are chosen, and a lecture. */
+function sheetTools(isDrawn, run) {
   const colours = byId('saved-colours').parentElement.cloneNode(true), [choice] = colours.children;
   choice.removeAttribute('id');
   choice.value = byId('saved-colours').value;
   choice.addEventListener('change', () => { byId('saved-colours').value = choice.value; });
-  const save = (kind, name) => html('button', { type: 'button', 'data-save': `reason-${kind}` }, name);
+  const save = (kind, name) => html('button', { type: 'button', class: 'quiet', 'data-save': `reason-${kind}` }, name);
   const saves = isDrawn ? [save('svg', 'Save the picture as SVG'), save('png', 'as PNG'), colours] : [];
   const link = html('button', { type: 'button', class: 'quiet', 'data-copy-link': '' }, 'Copy the link');
-  return html('p', { class: 'buttons tools' }, ...saves, link, lectureButton(), html('span', { class: 'page-saved', role: 'status' }));
+  return html('p', { class: 'buttons tools' }, ...run, ...saves, link, lectureButton(), html('span', { class: 'page-saved', role: 'status' }));
 }
 
 const FEW_TOGETHER = 4; // leaves of a low tree
@@ -143,8 +145,13 @@ function allowedParts(answered, programs, proposition, beside) {
   const passes = passEdges(loads, executed, cycle), few = [...cycle, ...askedEdges(executed, wanted)];
   const edges = [...new Set(isMany ? [...few, ...executed, ...passes] : [...cycle, ...passes, ...few, ...executed])];
   const run = html('button', { type: 'button', 'data-choices': choices, 'data-depth': DEPTH_OF[model] }, 'Run it');
-  return [...sequentialPart(sequential, isCalm && loads.length === 0), ...passesPart(loads, own.said, cycle, { isToo, isMany }), html('p', { class: 'buttons' }, run, ...choicesPart(choices)),
-    ...executionPart(programs, edges, isMany && few.length > 0 ? [...new Set(few)] : edges, cycle), tablesPart(executionTables(told), isCalm)];
+  const { said, more } = passesPart(loads, own.said, cycle, { isToo, isMany }), note = isCalm ? [html('p', {}, 'The answer as text has a run of its own.')] : [];
+  return {
+    said: [...sequentialPart(sequential, isCalm && loads.length === 0), ...said],
+    drawn: executionPart(programs, edges, isMany && few.length > 0 ? [...new Set(few)] : edges, cycle),
+    run: [html('span', { class: 'of-run' }, run, ...choicesPart(choices))],
+    more: [...more, html('div', { class: 'beside' }, ...executionTables(told.asked === null ? { ...told, values: { ...registersAtEnd(choices, programs, model), ...told.values } } : told)), ...note],
+  };
 }
 
 /** An execution that is drawn, edge by edge: first its forbidden cycle, if it has one. */
@@ -152,17 +159,8 @@ function executionPart(programs, edges, few, cycle) {
   if (edges.length === 0) return [];
   const [first] = cycle, end = `So this run needs store buffers: without them ${first?.from} would be before itself. TSO doesn't keep the dashed arrows.`;
   const told = { end: first ? end : '', name: 'The execution', closed: cycle.length, arrow: 'without store buffers, ' };
-  const panelOf = (shown, isAll) => new CyclePanel(programs, shown, { ...told, isAll });
+  const panelOf = (shown, isPicked) => new CyclePanel(programs, shown, isPicked ? { ...told, end: '', closed: 0 } : told);
   return [drawExecution(programs, edges, few, panelOf)];
-}
-
-const FEW_TOLD = 16; // rows of tables that are open at first
-
-/** The tables of an execution, folded where they are long. */
-function tablesPart(tables, isCalm) {
-  const part = html('details', { class: 'in-tables' }, html('summary', {}, 'Reads, writes and final values, in tables'), html('div', { class: 'beside' }, ...tables), isCalm ? html('p', { class: 'small faint' }, 'The answer as text has a run of its own.') : '');
-  part.open = part.querySelectorAll('tbody tr').length <= FEW_TOLD;
-  return part;
 }
 
 /** Whether one's own run is the one that is shown, its choices, and how a sentence names the shown run. */
@@ -179,6 +177,10 @@ function runOf(choices, model) {
   const { status, text } = asked({ command: 'run', json: true, depth: DEPTH_OF[model] }, `${inputOf('sweep')}${DIVIDING_LINE}\n${choices}\n`);
   return status === Tso.STATUS.good ? tellEntries(readLine(text.trim())) : null;
 }
+
+/** The registers that programs write, as the run of these choices leaves them. */
+const registersAtEnd = (choices, programs, model) => Object.fromEntries((runOf(choices, model)?.registers ?? []).flatMap((file, core) =>
+  [...new Set(programs[core].flatMap(writtenBy))].map(name => [`${core}:${name}`, file.get(name)])));
 
 /** What sequential consistency tells of the same end: if it can be there too, no fence is a cure. */
 function sequentialPart(told, isCalm) {
@@ -199,8 +201,8 @@ const loadsThatPassed = (choices, model) => (runOf(choices, model)?.order ?? [])
 /** Whether a cycle has this load behind a store. */
 const isOfCycle = (load, cycle) => cycle.some(({ relation, to }) => relation === 'unkept' && nameOfEvent(to) === nameOfEvent(load.text));
 
-/** These loads as they are told: those of the cycle first. */
-const toldFirst = (loads, cycle) => [...loads].sort((one, other) => isOfCycle(other, cycle) - isOfCycle(one, cycle));
+/** These loads as they are told: those of the cycle first, by their cores. */
+const toldFirst = (loads, cycle) => [...loads].sort((one, other) => isOfCycle(other, cycle) - isOfCycle(one, cycle) || one.text.localeCompare(other.text, 'en', { numeric: true }));
 
 /** What is told of loads and no cycle has: program order to a load that passed a store, or where its value is from. */
 function passEdges(loads, executed, cycle) {
@@ -211,16 +213,18 @@ function passEdges(loads, executed, cycle) {
   });
 }
 
-/** What loads passed in the run that a sentence names so, and what keeps such an order. Of many those of the cycle, and the others in a fold. */
+/** What loads passed in the run that a sentence names so, and what keeps such an order. Of many those of the cycle, and the others with what is told in the fold. */
 function passesPart(loads, named, cycle, { isToo, isMany }) {
   const passes = toldFirst(loads, cycle).flatMap(passSentences), isOne = loads.length === 1;
-  if (passes.length === 0) return [];
-  const title = isOne ? 'A load passes a store' : 'Loads pass stores', more = passes.splice(isMany ? Math.max(1, loads.filter(load => isOfCycle(load, cycle)).length) : MOST_PASSES);
-  const enough = isOne ? ' One load that passes its store is enough.' : '';
-  const after = isToo ? ' In another run that ends so, other loads may pass, or none.'
-    : ' This is the one order of a program that TSO doesn\'t keep. MFENCE or a locked instruction between the store and the load would keep it. In another run that ends so, other loads may pass.';
-  const rest = more.length > 0 ? [html('details', { class: 'in-tables' }, html('summary', {}, `And ${more.length} more${isMany ? ', which the cycle below doesn\'t have' : ''}`), html('ul', {}, ...more.map(each => html('li', {}, each))))] : [];
-  return [html('p', {}, html('strong', {}, `${title} in ${named}: `), passes.join(' ') + enough, html('span', { class: 'fine' }, after)), ...rest];
+  if (passes.length === 0) return { said: [], more: [] };
+  const title = isOne ? 'A load passes a store' : 'Loads pass stores', rest = passes.splice(isMany ? Math.max(1, loads.filter(load => isOfCycle(load, cycle)).length) : MOST_PASSES);
+  const enough = isOne ? ' One load that passes its store is enough.' : '', cure = isToo ? '' : ' MFENCE or a locked instruction between the store and the load would keep their order.';
+  const others = `In another run that ends so, other loads may pass${isToo ? ', or none' : ''}.`, list = rest.length === 0 ? []
+    : [html('p', {}, `${rest.length} more of this run${isMany ? ', which the cycle doesn\'t have' : ''}:`), html('ul', {}, ...rest.map(each => html('li', {}, each)))];
+  return {
+    said: [html('p', { class: 'passing' }, html('strong', {}, `${title} in ${named}: `), passes.join(' ') + enough + cure)],
+    more: [html('p', {}, isToo ? others : `A load that passes a store is the one change of a program's order that TSO allows. ${others}`), ...list],
+  };
 }
 
 /** Marks a step of the tree, and opens the cases that it is in. */
@@ -233,7 +237,7 @@ function markStep(at) {
 function drawCycle(at) {
   markStep(at);
   const { step, cycle } = closingOf(sheet.told.steps[at]), order = step === 'cycle' ? ' in memory order' : '';
-  const end = `So ${cycle[0].from} would be before itself${order}. No order allows that.`, panelOf = (_, isAll) => new CyclePanel(sheet.programs, cycle, { end, isAll });
+  const end = `So ${cycle[0].from} would be before itself${order}. No order allows that.`, panelOf = () => new CyclePanel(sheet.programs, cycle, { end });
   byId('states').querySelector('.drawn').replaceChildren(drawExecution(sheet.programs, cycle, cycle, panelOf));
   for (const button of document.querySelectorAll('[data-cycle]')) button.setAttribute('aria-pressed', String(Number(button.dataset.cycle) === at));
 }

@@ -17,7 +17,7 @@ function estimated({ count, next, at, took }) {
 /** How far the work came, about, and how far it may come. */
 function progressText() {
   const { progress } = working;
-  return progress === null ? '' : `${progress.pass === 0 ? 'About' : 'Second pass, without store buffers: about'} ${grouped(estimated(progress))} of at most ${grouped(progress.most)} ${LIMIT_OF[progress.command]}.`;
+  return progress === null ? '' : `${progress.pass === 0 ? 'About' : progress.command === 'why' ? 'The search met its limit. Now “why”: about' : 'Second pass, without store buffers: about'} ${grouped(estimated(progress))} of at most ${grouped(progress.most)} ${LIMIT_OF[progress.command]}.`;
 }
 
 function showWorking() {
@@ -91,6 +91,7 @@ document.addEventListener('keydown', event => {
   if (event.key !== 'Escape') return;
   if (bench.task !== null) stopWork();
   else if (isLecture() && byId('stopped').hidden && !byId('test-part').open) toggleLecture();
+  else if (!isLecture() && !byId('way-back').hidden && !event.target.matches('textarea, input') && !document.querySelector('#folds [open]')) backToRun();
 });
 byId('stop').addEventListener('click', stopWork);
 byId('stopped').addEventListener('click', ({ target }) => 'met' in target.dataset && showMetBefore());

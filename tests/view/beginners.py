@@ -71,7 +71,7 @@ def signs_row(bench):
         bench.value("DRIVES.last()")
         faults += differs("the verdict", bench.text("#verdict"), wanted)
     signs = bench.value("[...document.querySelectorAll('#verdict [data-means]')].map(each => [each.textContent, each.tabIndex, MEANINGS[each.dataset.means]])")
-    faults += differs("signs", signs, [["Both loads read 0", 0, "Written exists (0:EAX=0 /\\ 1:EAX=0)."]])
+    faults += differs("signs", signs, [["Both loads read 0", -1, "Written exists (0:EAX=0 /\\ 1:EAX=0)."]])
     bench.value("byId('lecture').click()")
     bench.wait("isLecture()")
     bench.value("DRIVES.last()")
@@ -97,6 +97,37 @@ def settings_row(bench):
     return faults + differs("ways on", bench.value(IN_SIGHT % ["#way-back [data-ask=why]", "#way-back [data-ask=outcomes]"]), ["#way-back [data-ask=outcomes]"]) + safety(bench)
 
 
+def in_c_row(bench):
+    """Each test of plain instructions has its C beside it, with r0, r1 .. over the cores, at the registers and in the table too; where one has no such form none has."""
+    told = """[...document.querySelectorAll('.program')].map(each => [...each.children].map(({ dataset }) => dataset.c ?? null))"""
+    own = "X86 OWN\n{ }\n P0 | P1 ;\n MOV [x],$1 | MOV EAX,$2 ;\n MFENCE | XCHG [y],EAX ;\n MOV ECX,[y] | MOV EBX,[x] ;\nexists (0:ECX=0 /\\ 1:EAX=0 /\\ 1:EBX=0)\n"
+    bench.open_fresh()
+    bench.fill("test", own)
+    faults = differs("C", bench.value(told), [["x = 1;", "fence;", "r0 = y;"], ["r1 = 2;", "swap(y, r1);", "r2 = x;"]])
+    faults += differs("registers", bench.value("[...document.querySelectorAll('.registers')].map(each => each.textContent)"), ["ECX (r0)=0", "EAX (r1)=0EBX (r2)=0"])
+    find_outcomes(bench)
+    faults += differs("the table", bench.value("[...document.querySelectorAll('#states th[data-c]')].map(each => each.textContent + each.dataset.c)"), ["0:ECX (r0)", "1:EAX (r1)", "1:EBX (r2)"])
+    bench.open_fresh()
+    bench.fill("test", own.replace("MFENCE", "LOCK XADD [x],EAX"))
+    return faults + differs("without a form", bench.value(told), [[None] * 3] * 2) + safety(bench)
+
+
+def word_stops_row(bench):
+    """Beyond its buttons a core has one Tab stop, memory one, and the order one; down and up lead to each word there, and each tells its meaning."""
+    stops = "[...document.querySelectorAll(%r)].map(each => each.querySelectorAll('[data-means][tabindex=\"0\"]').length)"
+    pressed = "document.activeElement.dispatchEvent(new KeyboardEvent('keydown', { key: %r, bubbles: true })), [document.activeElement.dataset.means, byId('meaning').textContent === MEANINGS[document.activeElement.dataset.means], byId('meaning').hidden]"
+    bench.open_fresh()
+    bench.value("loadText('false-sharing.litmus'); goTo(6)")
+    faults = differs("stops", [bench.value(stops % name) for name in (".core", ".below")], [[1, 1], [1]])
+    bench.value("document.querySelector('.core h5').focus()")
+    for key, word in (("ArrowDown", "a store"), ("ArrowDown", "Registers"), ("ArrowUp", "a store"), ("ArrowUp", "Program"), ("ArrowUp", "Program")):
+        faults += differs("after " + key, bench.value(pressed % key)[:1 if word == "Program" else 3], [word, True, False][:1 if word == "Program" else 3])
+    bench.value("loadText('store-buffering.litmus'); goTo(3); byId('order-title').focus()")
+    told = [bench.value(pressed % "ArrowDown")[0] for _ in range(2)]
+    faults += differs("in the order", told, ["/\\", "passed"])
+    return faults + differs("the count of steps is the same", bench.value("drive.count"), 3) + safety(bench)
+
+
 def rows(page, _):
     bench = Driver(page)
     return [
@@ -105,4 +136,6 @@ def rows(page, _):
         ("beginners, what is held back", lambda: held_back_row(bench)),
         ("beginners, signs", lambda: signs_row(bench)),
         ("beginners, settings and ways back", lambda: settings_row(bench)),
+        ("beginners, C beside each test", lambda: in_c_row(bench)),
+        ("beginners, words by arrows", lambda: word_stops_row(bench)),
     ]

@@ -24,15 +24,13 @@ apt-get install -y --no-install-recommends chromium poppler-utils
   can, is told, drawn and run as the program tells it: the rows of reasons.py.
 
 - What teaches: lessons, tasks, terms (teaching.py, lessons.py, beginners.py); the larger set of instructions (larger.py); work that is long, undo, branches and ways
-  back (working.py); a lecture, tables and forms (presenting.py); lists of tests (playlists.py); ways of edges that cross nothing, and what
+  back (working.py); a lecture, tables and forms (presenting.py); lists of tests (playlists.py) and a hall (hall.py); ways of edges that cross nothing, and what
   moves (drawn_edges.py); what WCAG 2.2 AA asks, as far as a script sees it (access.py); looks and layout (layout.py).
 - In Firefox, where Debian's firefox-esr is there, some of these rows.
 
 The last line is 'N passed, M failed'.
 """
 import argparse
-import base64
-import gzip
 import json
 import os
 import shutil
@@ -52,6 +50,7 @@ import driving
 import firefox
 import first
 import given_lines
+import hall
 import kept
 import larger
 import layout
@@ -66,6 +65,9 @@ from bench import READY
 from drawing import read
 
 TOP = os.path.dirname(os.path.dirname(os.path.dirname(os.path.abspath(__file__))))
+sys.path.append(os.path.join(TOP, "tools"))
+import packing
+
 NO_MODULE = "'use strict';\n\nconst MODULE = null;\n"
 
 
@@ -82,7 +84,7 @@ def folder_with_module(room, is_shipped):
     return view, made.stderr.strip() if made.returncode else None
 
 
-NO_BYTES = "'use strict';\n\nconst MODULE = { version: '', tools: '', sources: '', packed: '%s' };\n" % base64.b64encode(gzip.compress(b"")).decode()
+NO_BYTES = "'use strict';\n\nconst MODULE = { version: '', tools: '', sources: '', packed: '%s' };\n" % packing.packed_bytes(b"")
 
 
 def folder_with_stand_in(room, view, missing):
@@ -129,7 +131,7 @@ def rows_of_reasons(page, room, folder):
 
 def rows_that_teach(page, folder):
     """The rows of what teaches; they ask for outcomes and for `why`, so they need a module that answers these."""
-    return [row for each in (teaching, larger, working, presenting, playlists, drawn_edges, access, layout, beginners) for row in each.rows(page, folder)]
+    return [row for each in (teaching, larger, working, presenting, playlists, hall, drawn_edges, access, layout, beginners) for row in each.rows(page, folder)]
 
 
 class Page:

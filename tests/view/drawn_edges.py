@@ -66,7 +66,7 @@ DRAWN = "[...document.querySelectorAll('.reason .head')].map(each => each.textCo
 
 
 def left_out_row(bench):
-    """Of many cores those without an arrow are left out, which is said; and of many arrows those that don't matter for what is asked, where a box shows all."""
+    """Of many cores those without an arrow are left out, which is said; and of many arrows those that don't matter for what is asked, where picks show them."""
     bench.open_fresh(width=1280)
     faults, all_cores = [], ["P%d" % core for core in range(8)]
     for word, few in ((0, ["P4", "P5"]), (1, ["P4", "P5"])):
@@ -78,10 +78,9 @@ def left_out_row(bench):
         if word == 0:
             faults += differs("what is left out", bench.text(".drawn-part .buttons"), "Cores without an arrow are left out.")
         else:
-            bench.value("document.querySelector('.reason .drawn-part input[type=checkbox]').click()")
+            every = bench.value("for (const each of [...document.querySelectorAll('.pick')].filter(each => /^P/.test(each.textContent))) each.click(); sheet.cycle.cycle.length")
             faults += differs("all cores of %d" % word, bench.value(DRAWN), all_cores)
-            every = bench.value("document.querySelectorAll('.reason [data-edge]').length")
-            is_said = bench.text(".drawn-part .buttons").startswith("Drawn are all %d arrows." % every)
+            is_said = bench.text(".drawn-part .buttons").startswith("Drawn are %d of %d arrows" % (every, every))
             faults += [] if is_said and every > edges else ["all arrows are %d" % edges]
         bench.value("backToRun()")
     return faults + safety(bench)
@@ -173,6 +172,91 @@ def enough_row(bench):
 MOVED = "window.moved = []; Element.prototype.animate = function (frames) { moved.push([this.textContent, frames[0].transform !== frames[1].transform]); return { finished: Promise.resolve() }; }; true"
 
 
+SHEET = """(() => {
+  const boxOf = name => document.querySelector(`.reason ${name}`).getBoundingClientRect(), [figure, list, legend, run] = ['figure', '.edges', '.relations', '[data-choices]'].map(boxOf);
+  const [place, told] = ['.pictured-cycle', '.told-edges'].map(boxOf), size = each => parseFloat(getComputedStyle(document.querySelector(`.reason ${each}`)).fontSize);
+  return { isBeside: list.left >= figure.right && Math.abs(list.top - figure.top) < 12, hole: Math.abs(place.bottom - told.bottom) / (Math.max(place.bottom, told.bottom) - figure.top),
+    isSplit: list.top >= figure.bottom && legend.left >= list.right && Math.abs(legend.top - list.top) < 12,
+    isBelow: list.top >= figure.bottom && legend.top >= list.bottom, isLarge: size('[role=status] > strong') > 1.1 * size('.passing'), isRunBelow: run.top >= Math.max(figure.bottom, list.bottom),
+    isFolded: !document.querySelector('.reason > .in-tables').open };
+})()"""
+
+
+def sheet_row(bench):
+    """A sheet begins with its verdict, large; the list stands at the picture's right, from its top, and no column is less than half filled; below a picture that
+    is too wide for that the legend stands beside the list, and on a phone all stand below one another. What can be done stands below, the rest in a fold."""
+    wanted = {"isLarge": True, "isRunBelow": True, "isFolded": True}
+    faults = []
+    for width, height in ((1280, 800), (1920, 1080), (390, 844)):
+        bench.open_fresh(width=width)
+        bench.window.resize(width, height)
+        for name in ("SB", "R", "3.SB"):
+            bench.fill("test", reasons.text_of(name))
+            bench.value("askWhy()")
+            bench.wait("!bench.task && document.querySelector('.reason figure') && document.querySelector('.reason [data-choices]')")
+            found = bench.value(SHEET)
+            faults += differs("%s at %d" % (name, width), {each: found[each] for each in wanted}, wanted)
+            is_right = found["isBelow"] if width == 390 else found["isSplit"] if (name, width) == ("3.SB", 1280) else found["isBeside"] and found["hole"] < 0.5
+            faults += [] if is_right else ["%s at %d: %s" % (name, width, found)]
+            bench.value("backToRun()")
+    bench.window.resize(1280, 800)
+    return faults + safety(bench)
+
+
+PICKED = "[sheet.cycle.cycle.length, sheet.cycle.cycle.every(%s), document.querySelectorAll('.pick[aria-pressed=true]').length]"
+
+
+def picked_row(bench):
+    """Of more arrows than one can read those are drawn that somebody picks by core and by location; at first none is picked."""
+    bench.open_fresh(width=1280)
+    bench.fill("test", BIG)
+    bench.value("askWhy()")
+    bench.wait("!bench.task && document.querySelector('.reason .drawn-part')")
+    few, every = bench.value("[sheet.cycle.cycle.length, Number(/of (\\d+) arrows/.exec(document.querySelector('.drawn-part > p').textContent)[1])]")
+    faults = differs("at first", bench.value(PICKED % "() => true")[2], 0) + ([] if few <= 24 < every else ["of %d arrows %d are drawn" % (every, few)])
+    faults += differs("no box draws all", "Draw all" in bench.text(".drawn-part > p"), False)
+    press = "[...document.querySelectorAll('.pick')].find(each => each.textContent === '%s').click(), %s"
+    at_core, at_both = "({ from, to }) => [from, to].some(each => each.startsWith('P2'))", "({ from, to }) => [from, to].some(each => each.startsWith('P2')) && / y/.test(from)"
+    core, both, left = (bench.value(press % (name, PICKED % form)) for name, form in (("P2", at_core), ("y", at_both), ("P2", "({ to }) => / y/.test(to)")))
+    faults += differs("picked", [core[1:], both[1:], left[1:]], [[True, 1], [True, 2], [True, 1]]) + ([] if 0 < both[0] < core[0] < every else ["%s of %d arrows" % ([core, both], every)])
+    faults += differs("what is said", bench.text(".drawn-part > p > span"), "Drawn are %d of %d arrows, those at what is picked." % (left[0], every))
+    faults += differs("none again", bench.value(press % ("y", PICKED % "() => true")), [few, True, 0])
+    return faults + safety(bench)
+
+
+STATUSES = """(async () => {
+  Object.assign(possible, { test: null, refuted: null, found: null });
+  const task = beginTask(bench.bytes, questionsOf('outcomes', { command: 'outcomes', depth: 32, states: %d }), inputOf('outcomes'));
+  return (await task.answers).map(each => each && each.status);
+})()"""
+
+
+def limit_row(bench):
+    """Outcomes that don't come to their end begin with what `why` says; then nothing is searched without store buffers. Where the test has no condition, the final values
+    of a reason have registers; and an answer as text says which of its words the picture hasn't."""
+    bench.open_fresh()
+    faults = []
+    for name, said in (("SB+mfences", "No: no run ends with 0 in P0's EAX and 0 in P1's EAX."), ("SB", "Yes: a run ends with 0 in P0's EAX and 0 in P1's EAX.")):
+        bench.fill("test", reasons.text_of(name))
+        faults += differs("asked", [bench.value(STATUSES % states) for states in (5, 1000)], [[3, None, 0], [0, 0, None]])
+        bench.value("settingOf('states').value = 5; findOutcomes()")
+        bench.wait("!bench.task && document.querySelector('.ways-on')")
+        faults += differs("the verdict", bench.text("#states > [role=status] > strong"), said)
+        bench.value("settingOf('states').value = 1000000; backToRun()")
+    bench.fill("test", reasons.PLAIN)
+    bench.value("askWhy()")
+    bench.wait("!bench.task && document.querySelector('.reason')")
+    values = bench.value("[...document.querySelectorAll('.reason table:last-of-type')].at(-1).textContent")
+    faults += [] if "P0's EAX" in values and "x" in values else ["final values: " + values]
+    bench.fill("test", reasons.text_of("SB+xchgs"))
+    bench.value("askWhy()")
+    bench.wait("!bench.task && document.querySelector('.reason .cycle')")
+    bench.value("byId('report-part').open = true; byId('as-printed').click(); showFormat()")
+    bench.wait("byId('report').textContent.includes('implied')")
+    bench.wait("document.querySelector('.report-key')?.textContent.includes('“implied” is “lock” in the picture')")
+    return faults + safety(bench)
+
+
 def motion_row(bench):
     """When a run is played a drain, a forward and a request to the bus move; where less motion is preferred nothing does."""
     wanted = {"reduce": [], "no-preference": [["GetM x", True], ["x=1", True]]}
@@ -201,4 +285,5 @@ def weights_row(bench):
 def rows(page, folder):
     bench = Driver(page)
     return [("pictures that are clear", lambda: clear_row(bench, folder)), ("cores and arrows left out", lambda: left_out_row(bench)), ("how a picture of many arrows opens", lambda: opened_row(bench)), ("the words that are enough", lambda: enough_row(bench)),
+            ("a sheet of why, its parts", lambda: sheet_row(bench)), ("arrows that are picked", lambda: picked_row(bench)), ("outcomes that meet their limit, and what why says", lambda: limit_row(bench)),
             ("what moves", lambda: motion_row(bench)), ("weights of buttons", lambda: weights_row(bench))]

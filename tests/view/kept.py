@@ -162,7 +162,7 @@ def colours_row(bench):
         return made
     light, _, is_same = pictures()
     dark = in_dark(bench, pictures)
-    faults = differs("the ground of saved pictures, light and as shown", [re.search(r'<rect y="[^"]*"[^>]*fill="(rgb[^"]*)"', each).group(1) for each in dark[:2]], ["rgb(255, 255, 255)", "rgb(32, 36, 41)"])
+    faults = differs("the ground of saved pictures, light and as shown", [re.search(r'<rect y="[^"]*"[^>]*fill="(rgb[^"]*)"', each).group(1) for each in dark[:2]], ["rgb(255, 255, 255)", "rgb(28, 32, 37)"])
     faults += differs("the same as in the light", dark[0] == light, True)
     return faults + differs("the page stays", [is_same, dark[2]], [True, True]) + safety(bench)
 

@@ -25,6 +25,7 @@ def guided_row(bench):
     press(bench, "[data-choice='1s']")
     faults += differs("the next step's own choice, and its question by itself", bench.value("[lesson.at, lesson.isDone, drive.words, byId('sentence').textContent]"), [4, False, ["0s", "1s"], ""])
     press(bench, "[data-choice='0s']")
+    faults += differs("what the buttons do, and what comes first", bench.value("[byId('lesson-now').textContent, getComputedStyle(document.querySelector('[data-choice=\"0d\"] code')).visibility]"), ["Answer first.", "visible"])
     told = bench.value("(box => [drive.count, box.textContent, box.matches('.wrong')])(byId('lesson-after'))")
     faults += differs("at a question", told, [2, "First answer the question.", True])
     bench.value("enterStep(2)")
@@ -56,7 +57,7 @@ FOCUS = "(({ id, dataset, textContent }) => id || dataset.choice || dataset.edge
 
 def focus_row(bench):
     """In a lesson the focus is always at what goes on: at the question after a refused key, at the awaited choice after an answer, at Next after what a
-    step shows, and at a part's end on what was learned. Digits answer, themselves where all answers are digits; arrows lead to the answers, and Enter does nothing before. The last arrow of a cycle keeps the focus."""
+    step shows, and at a part's end on Next, so that Enter goes on. Digits answer, themselves where all answers are digits; arrows lead to the answers, and Enter does nothing before. The last arrow of a cycle keeps the focus."""
     bench.open_fresh()
     press(bench, "#first-lesson")
     bench.value("document.activeElement.click()")
@@ -83,7 +84,7 @@ def focus_row(bench):
     bench.value("enterStep(13)")
     bench.wait("!bench.task && document.querySelector('.states-sheet')")
     press(bench, "#lesson-next")
-    faults += differs("at a part's end", bench.value("[%s, drive.isOn]" % FOCUS), ["lesson-said", False])
+    faults += differs("at a part's end", bench.value("[%s, drive.isOn]" % FOCUS), ["lesson-next", False])
     faults += differs("Next names the part", bench.text("#lesson-next"), "Next: What does a core see of its own stores?")
     places = [bench.value("enterStep(%d), [byId('lesson-place').textContent, byId('lesson-bar').value, byId('lesson-bar').max]" % at) for at in (14, 15)]
     faults += differs("parts", places, [["Part 1 of 2, step 13 of 13", 13, 13], ["Part 2 of 2, step 1 of 7", 1, 7]])
@@ -93,6 +94,11 @@ def focus_row(bench):
     for _ in range(3):
         press(bench, "[data-edges=next]")
     faults += differs("at the last arrow", bench.value("[%s, sheet.cycle.shown]" % FOCUS), ["next", 4])
+    bench.value("sheet.cycle.show(1), enterStep(13), focusStep()")
+    faults += differs("where the arrows are told of", bench.value(FOCUS), "next")
+    for _ in range(3):
+        press(bench, "[data-edges=next]")
+    bench.wait("document.activeElement.id === 'lesson-next'")
     return faults + safety(bench)
 
 
@@ -120,3 +126,24 @@ def views_row(bench):
         faults += differs("four machines", bench.value("[settingOf('words').value, lesson.isDone, drive.histories.length]"), [words, back, 4])
         press(bench, "#lesson-back")
     return faults + differs("one machine", bench.value("[lesson.isDone, drive.histories.length]"), [False, 1]) + safety(bench)
+
+
+OWN = "X86 own\n{ }\n P0 | P1 ;\n MOV [x],$1 | MOV EAX,[x] ;\nexists (1:EAX=1)\n"
+
+
+def own_test_row(bench):
+    """After a lesson one's own test is a press away, with its run; Escape leads from an answer back to the run; parts of cores stand at one height."""
+    bench.open_fresh(width=1280)
+    bench.fill("test", OWN)
+    bench.value("byId('test-part').open = false; makeChoice('0s'); true")
+    bench.value("beginLesson('store-buffering'); leaveLesson(); true")
+    faults = differs("offered", bench.text("#to-first-test"), "Back to your own test")
+    press(bench, "#to-first-test")
+    faults += differs("one's own test", bench.value("[byId('test').value, drive.words.join(), byId('left-lesson').hidden]"), [OWN, "0s", True])
+    bench.value("byId('find-outcomes').click()")
+    bench.wait("!bench.task && document.querySelector('.states-sheet')")
+    bench.window.press("Escape")
+    faults += differs("after Escape", bench.value("[byId('run').hidden, drive.count]"), [False, 1])
+    bench.fill("test", OWN.replace("MOV EAX,[x] ;", "MOV EAX,[x] ;\n | MFENCE ;\n | MOV EBX,[x] ;"))
+    tops = "[...new Set([...document.querySelectorAll('.core .buffer')].map(each => Math.round(each.getBoundingClientRect().top)))].length"
+    return faults + differs("heights of buffers", bench.value(tops), 1) + safety(bench)

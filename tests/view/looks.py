@@ -34,7 +34,7 @@ def dark_row(bench, folder):
         bench.fill("choices", "0s 0s 1s 0d 1s 1d")
         bench.window.screenshot(os.path.join(folder, "dark.png"))
         faults += bench.value("(%s)()" % CONTRAST)
-        faults += differs("the ground", bench.value("getComputedStyle(document.body).backgroundColor"), "rgb(22, 24, 27)")
+        faults += differs("the ground", bench.value("getComputedStyle(document.body).backgroundColor"), "rgb(18, 20, 23)")
         bench.fill("choices", "0s 9s")
         bench.window.screenshot(os.path.join(folder, "dark-refused.png"), whole=False)
     finally:

@@ -177,9 +177,9 @@ def faults_of_met(bench, found):
     """Whether some states, of a search that met its limit, are shown as some, with the verdict that one of them decides."""
     told = {"met": found["states"][:2], "test": found["test"], "unfinished": {"states": 3}, "verdict": "Ok"}
     bench.value("showMet({ status: 3, text: %s, hint: '' }, 32)" % json.dumps(json.dumps(told)))
-    said = bench.text("#states p")
+    said = bench.value("[...document.querySelectorAll('#states > p')].map(each => each.textContent).join(' ')")
     faults = differs("rows of the table of some states", bench.value("document.querySelectorAll('#states tbody tr').length"), 2)
-    return faults + differs("some states", [said.startswith("The search kept 3 states"), "2 of the outcomes were met" in said, "Ok" in said], [True] * 3)
+    return faults + differs("some states", [said.startswith("Yes: a run ends "), " The search kept 3 states" in said, "2 of the outcomes were met" in said, "Ok" in said], [True] * 4)
 
 
 def verdict_row(bench):

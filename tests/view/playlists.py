@@ -12,16 +12,21 @@ CLICKED = "document.body.dispatchEvent(new KeyboardEvent('keydown', { key: '%s',
 
 KINDS = ["Store buffering: the run", "Message passing: the run", "IRIW: the run"]
 
-KEPT = " The list goes when the page is closed: “Save as a page” keeps it in a file."
+KEPT = " Closing this tab loses the lecture: save it as a page."
 
 
 def at_its_end(bench):
-    """A clicker that goes on opens a run before its first choice, and one that goes back at its end."""
+    """A clicker that goes on, past the reason of a run, opens a run before its first choice, and one that goes back at its end."""
     bench.value("putLecture(true); openListed(1)")
     found = [bench.value("[playlist.at, drive.count]")]
-    for key in ("PageUp", "PageDown"):
-        bench.value(CLICKED % key)
-        found.append(bench.value("[playlist.at, drive.count === drive.words.length, drive.count]"))
+    bench.value(CLICKED % "PageUp")
+    found.append(bench.value("[playlist.at, drive.count === drive.words.length, drive.count]"))
+    for _ in range(8):  # the reason and its four arrows come before the next test
+        bench.value(CLICKED % "PageDown")
+        bench.wait("!bench.task")
+        if bench.value("playlist.at") == 1:
+            break
+    found.append(bench.value("[playlist.at, drive.count === drive.words.length, drive.count]"))
     last = bench.value("taught.list[0] && drive.words.length")
     bench.value("putLecture(false)")
     return differs("by a clicker", [found[0], found[1][:2], found[2]], [[1, 0], [0, True], [1, False, 0]]) + ([] if last else ["no choices are known"])
@@ -67,7 +72,7 @@ def list_row(bench, folder):
 
 
 def clicker_row(bench):
-    """The foot says what a clicker's key does next: where no choice is known and at a run's end it leads to the next test, and so it does from
+    """The foot says what a clicker's key does next: where no choice is known and at a run's end it leads to the reason, and to the next test from
     a cycle's end and a sheet's."""
     bench.open_fresh()
     bench.value("addToList(); taught.list[0].address = taught.list[0].address.replace(/&choices=[^&]*/, ''); loadText('MP.litmus'); addToList(); askWhy()")
@@ -82,16 +87,49 @@ def clicker_row(bench):
     bench.value(CLICKED % "PageDown")
     faults += differs("after a cycle", bench.value("[playlist.at, drive.isOn, testName()]"), [3, True, "SB"])
     bench.value("taught.list.pop(); openListed(0)")
-    faults += differs("said before it comes", bench.value("playlist.where"), "PageDown: next test: Message passing")
-    bench.value(CLICKED % "PageDown")
-    faults += differs("by one press", bench.value("testName()"), "MP")
+    faults += reason_between(bench)
     bench.value("openListed(0)")
     for choice in "0s 1s 0s 1s 0d 1d".split():
         press(bench, "[data-choice='%s']" % choice)
     faults += differs("the next", bench.value("byId('list-bar').lastElementChild.textContent"), "Message passing: run ▶")
-    bench.value(CLICKED % "PageDown")
-    faults += differs("the next", bench.value("testName()"), "MP")
+    faults += reason_between(bench)
+    bench.value("goTo(99)")
+    faults += differs("to a reason of the list", bench.value("playlist.where"), "PageDown: why")
     bench.value("putLecture(false)")
+    return faults + safety(bench)
+
+
+def reason_between(bench):
+    """From the first test's end a clicker comes to its reason, and from that one's last arrow to the second."""
+    faults = differs("said before it comes", bench.value("playlist.where"), "PageDown: the reason, by arrows")
+    bench.value(CLICKED % "PageDown")
+    bench.wait("!bench.task && document.querySelector('.cycle')")
+    bench.value("sheet.cycle.move('all'); scrollTo(0, 100000)")
+    faults += differs("said before the next", bench.value("footSaid()"), "PageDown: next test: Message passing")
+    bench.value(CLICKED % "PageDown")
+    return faults + differs("the next", bench.value("testName()"), "MP")
+
+
+def run_too_row(bench):
+    """A reason that is added offers its run too, which comes before it; the two belong together. What an exercise asks is asked under its button, and it says its machine."""
+    bench.open_fresh()
+    bench.value("loadText('MP.litmus'); addToList(); loadText('store-buffering-fenced.litmus'); askWhy()")
+    bench.wait("!bench.task && document.querySelector('.cycle')")
+    press(bench, "#way-back [data-add-to-list]")
+    faults = differs("said", bench.text("#way-back .listed"), "Added as 2: Store buffering with fences (why)." + KEPT + " Add the run too")
+    press(bench, "#way-back [data-add-run]")
+    names = bench.value("[taught.list.map(({ name }) => name.split(': ')[1]), playlist.at, drive.isOn, drive.words.length > 0, byId('listed').textContent]")
+    faults += differs("the run", names, [["the run", "the run", "why"], 1, True, True, "Added as 2: Store buffering with fences (the run)." + KEPT])
+    bench.value("putLecture(true); openListed(1); goTo(99)")
+    bench.value(CLICKED % "PageDown")
+    bench.wait("!bench.task && document.querySelector('.cycle')")
+    faults += differs("its reason", bench.value("[playlist.at, currentCommand()]"), [2, "why"])
+    bench.value("putLecture(false); loadText('false-sharing.litmus'); putBeside(JSON.stringify(ABREAST))")
+    press(bench, "#saves [data-save=exercise]")
+    below = "document.querySelector('#saves [data-save=exercise]').getBoundingClientRect().bottom"
+    faults += differs("the field", bench.value("byId('exercise-said').getBoundingClientRect().top - %s < 60" % below), True)
+    bench.value("saveFile = () => {}; saveExercise()")
+    bench.wait("[...document.querySelectorAll('.page-saved')].some(each => each.textContent.includes('without choices, with all four protocols, and'))")
     return faults + safety(bench)
 
 
@@ -103,7 +141,7 @@ def updated(bench):
     press(bench, "#saves [data-update-list]")
     faults += differs("the entry", bench.value("[taught.list.length, taught.list[0].name]"), [1, "Store buffering: the run"])
     bench.value("takeFromLibrary('MP.litmus')")
-    bench.wait("document.querySelector('#list-bar span').textContent === 'Not in the list of 1 entry'")
+    bench.wait("document.querySelector('#list-bar span').textContent === 'Not in the lecture of 1 entry'")
     return faults + differs("over another test", [bench.text("#listed"), bench.value("document.querySelector('#saves [data-update-list]').hidden")], ["", True])
 
 
@@ -153,7 +191,7 @@ def kept_list_row(bench):
     faults = differs("added", bench.text("#listed"), "Added as 1: Store buffering (the run)." + KEPT)
     press(bench, "#add-to-list")
     faults += differs("twice", [bench.text("#listed"), bench.value("taught.list.length")], ["It is there already, as 1: Store buffering (the run)." + KEPT, 1])
-    faults += differs("the list in sight", [is_in_sight(bench, "#saves #list-said"), bench.text("#list-said")], [True, "List: 1 Store buffering (the run)"])
+    faults += differs("the list in sight", [is_in_sight(bench, "#saves #list-said"), bench.text("#list-said")], [True, "Lecture: 1 Store buffering (the run)"])
     faults += updated(bench)
     bench.value("putBeside(JSON.stringify(ABREAST)); takeFromLibrary('MP.litmus')")
     faults += differs("beside the next test", bench.value("[drive.beside, drive.histories.length]"), [None, 1])
@@ -214,7 +252,10 @@ def in_run_row(bench):
     bench.value(CLICKED % "PageDown")
     faults += differs("taken again", bench.value("[drive.words, drive.count]"), [known, 2])
     bench.value("goTo(drive.words.length)")
-    faults += differs("the end", bench.value("playlist.where"), "The end: PageUp goes back")
+    bench.value(CLICKED % "PageDown")
+    bench.wait("!bench.task && document.querySelector('.cycle')")
+    bench.value("sheet.cycle.move('all'); scrollTo(0, 100000)")
+    faults += differs("the end", bench.value("footSaid()"), "The end: PageUp goes back")
     bench.value("putLecture(false)")
     return faults + safety(bench)
 
@@ -231,7 +272,7 @@ def renamed_row(bench):
     bench.value("(field => { field.value = ' '; field.dispatchEvent(new Event('change')); })(document.querySelector('[data-name-of]'))")
     faults += differs("with no name", bench.value("taught.list[0].name"), "Dekker")
     bench.value("loadText('MP.litmus')")
-    bench.wait("document.querySelector('#list-bar span').textContent === 'Not in the list of 1 entry'")
+    bench.wait("document.querySelector('#list-bar span').textContent === 'Not in the lecture of 1 entry'")
     return faults + safety(bench)
 
 
@@ -326,7 +367,7 @@ def written_row(bench):
     faults = differs("marked", [bench.value(marks % count) for count in (2, 3, 4, 5)], [[0, 0], [1, 0], [0, 1], [0, 0]])
     bench.value("loadText('false-sharing.litmus'); putBeside(JSON.stringify(ABREAST)); goTo(7)")
     told = bench.value("['#programs code.changed', '#programs .changed.word', '.machine h3'].map(each => [...document.querySelectorAll(each)].map(each => each.textContent))")
-    return faults + differs("abreast", told, [["MOV EAX,[y]"], ["EAX (r1)=1"], ["MSI", "MESI, as MSI so far", "MOESI", "MOSI"]]) + safety(bench)
+    return faults + differs("abreast", told, [["MOV EAX,[y]"], ["EAX (r0)=1"], ["MSI", "MESI, as MSI so far", "MOESI", "MOSI"]]) + safety(bench)
 
 
 def rows(page, folder):
@@ -344,4 +385,5 @@ def rows(page, folder):
         ("a clicker that goes back through a list", lambda: both_ways_row(bench)),
         ("a clicker in the middle of a run", lambda: in_run_row(bench)),
         ("a name in a list", lambda: renamed_row(bench)),
+        ("a reason and its run in a list", lambda: run_too_row(bench)),
     ]

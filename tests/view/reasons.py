@@ -144,7 +144,7 @@ def never_row(bench, folder, name, model):
     bench.open(width=1280)
     ask(bench, name, model)
     faults = faults_of_tree(bench.value(TREE), wanted_tree(list(told["steps"])), name)
-    said = bench.text(".reason > .terms")
+    said = bench.text(".reason .terms")
     faults += [] if "There is none" in said and ("Verdict %s: " % told["verdict"] in said) else ["it says " + said]
     cycles = [(at, step["cycle"]) for at, step in enumerate(map(closing_of, told["steps"])) if "cycle" in step]
     buttons = [str(at) for at, _ in cycles] if len(cycles) > 1 else []
@@ -199,7 +199,7 @@ def unkept_row(bench):
     bench.fill("test", MANY_PASS)
     bench.value("putCommand('why'); begin()")
     bench.wait("!bench.task && document.querySelector('.reason')")
-    faults += differs("of many loads that pass", bench.value("(fold => [fold.querySelector('summary').textContent, fold.querySelectorAll('li').length])(document.querySelector('.reason > details'))"), ["And 5 more", 5])
+    faults += differs("of many loads that pass", bench.value("(fold => [fold.textContent.includes('5 more of this run:'), [...fold.querySelectorAll('li')].map(each => each.textContent[1])])(document.querySelector('.reason > .in-tables'))"), [True, [*"34567"]])
     lanes = "[...document.querySelectorAll('.reason .head')].map(each => each.textContent)"
     room = "(figure => [figure.scrollWidth <= figure.clientWidth, figure.getBoundingClientRect().right <= innerWidth])(document.querySelector('.reason figure'))"
     bench.window.resize(1280, 800)
@@ -267,7 +267,7 @@ def told_loads_row(bench):
         bench.load(test, choices)
         bench.value("%saskWhy()" % ("goTo(6), " if choices else ""))
         bench.wait("!bench.task && document.querySelector('.reason')")
-        said = bench.text(".reason > p:has(> .fine)")
+        said = bench.text(".reason > .passing")
         told, arrows = re.findall(r"P\d:\d passed P\d:\d", said), bench.value(drawn)
         faults += ["%s has no arrow" % each for each in told if each not in arrows] + differs("the first arrow", arrows[0] in told, True)
         faults += differs("that one is enough", "is enough" in said, len(told) == 1) + differs("what keeps it", "MFENCE or a locked instruction" in said, True)
@@ -309,7 +309,7 @@ def no_fence_row(bench):
     at = [next((at for at, each in enumerate(said) if word in each), None) for word in ("No fence can forbid this end: sequential consistency allows it, too.", "P1:1 passed P1:0")]
     faults = [] if None not in at and at[0] < at[1] else ["it says %s" % said]
     arrows = bench.value("sheet.cycle.cycle.filter(({ relation }) => relation === 'unkept').map(({ from, to }) => [from, to])")
-    faults += differs("a fence", "MFENCE" in " ".join(said), False) + differs("the passes", arrows, [["P1:0 W y=1", "P1:1 R x=0"], ["P0:0 W x=1", "P0:1 R y=1"]])
+    faults += differs("a fence", "MFENCE" in " ".join(said), False) + differs("the passes", arrows, [["P0:0 W x=1", "P0:1 R y=1"], ["P1:0 W y=1", "P1:1 R x=0"]])
     return faults + safety(bench)
 
 
@@ -341,7 +341,7 @@ def saved_row(bench):
             made.append([told_by_picture(text) for text in bench.value(SAVED)])
         return made, bench.value("(async () => %s)()" % POINTS)
     (cycle, execution), points = kept.in_dark(bench, pictures)
-    grounds = ["rgb(255, 255, 255)", "rgb(32, 36, 41)"]
+    grounds = ["rgb(255, 255, 255)", "rgb(28, 32, 37)"]
     faults = differs("the cycle", cycle, [[ground, True, 4, "A cycle of 4 edges"] for ground in grounds])
     faults += differs("grounds of the execution", [each[0] for each in execution], grounds)
     faults += differs("the execution", [each[1:] for each in execution], [[True, execution[0][2], "The execution"]] * 2)

@@ -229,11 +229,11 @@ def kept_command_row(bench):
 
 
 def words_row(bench):
-    """What was met says whether it decides the condition; a case with all that one read can read lists it; an asked choice leads to Next."""
+    """What was met says where it leaves the condition open; a case with all that one read can read lists it; an asked choice leads to Next."""
     bench.open_fresh()
     met = "metSentence({ states: [{ holds: %s }], verdict: null, unfinished: { states: 5 } }, true)"
-    faults = [] if bench.value(met % "true").endswith(" One of them meets the condition: yes, it can be.") else [bench.value(met % "true")]
-    faults += [] if bench.value(met % "false").endswith(" None of them meets the condition, which decides nothing.") else [bench.value(met % "false")]
+    faults = [] if bench.value(met % "true").endswith("; there may be others.") else [bench.value(met % "true")]
+    faults += [] if bench.value(met % "false").endswith(" None of them meets the condition, which alone decides nothing.") else [bench.value(met % "false")]
     case = bench.value("caseWords([['P4:2 LR w from initial'], ['P4:2 LR w from P0:7 W w=5']])")
     faults += differs("a case", case, "Whichever of these P4:2 LR w reads, the initial value or what P0:7 W w=5 writes")
     bench.value("beginLesson('fences', 1); document.querySelector('[data-choice=\"0s\"]').click()")
@@ -292,11 +292,11 @@ COPIED = "X86 copied\n{ }\n P0 | P1 ;\n mov dword ptr [x], 1 | mov dword ptr [x]
 
 CHANGED = "Changed: 3 places: line 4: mov dword ptr [x], 1 became MOV [x],$1; line 5: movl $2, y became MOV [y],$2. Undo takes all back. "
 LISTING = "f():\n  push rbp\n  mov rbp, rsp\n  mov DWORD PTR x[rip], 1  # x\n  lock or DWORD PTR [rsp], 0\n  mov r8d, DWORD PTR y[rip]\n  mov eax, DWORD PTR y[rip]\n  ret\ng():\n  .cfi_startproc\n  movl $1, y(%rip)\n"
-LISTED = "X86 pasted\n{ }\n P0          | P1         ;\n MOV [x],$1  | MOV [y],$1 ;\n MFENCE      |            ;\n MOV EBX,[y] |            ;\n MOV EAX,[y] |            ;\n"
+LISTED = "X86 pasted\n{ }\n P0          | P1         ;\n MOV [x],$1  | MOV [y],$1 ;\n MFENCE      |            ;\n MOV EBX,[y] |            ;\n MOV EAX,[y] |            ;\nexists (0:EBX=0 /\\ 0:EAX=0)\n"
 FOREIGN = "X86 foreign\n{ }\n P0 | P1 ;\n MOV EAX,[x] | MOV R8D,[x] ;\n MOV R8D,[y] | MOV EAX,[y] ;\n MOV [x],R8D | MOV EBX,[y] ;\nexists (0:R8D=1 /\\ 1:R8D=1)\n"
 RENAMED = "X86 foreign\n{ }\n P0          | P1          ;\n MOV EAX,[x] | MOV ECX,[x] ;\n MOV EBX,[y] | MOV EAX,[y] ;\n MOV [x],EBX | MOV EBX,[y] ;\nexists (0:EBX=1 /\\ 1:ECX=1)\n"
 GCC = '\t.file\t"a.c"\n\t.text\nf:\n.LFB0:\n\t.cfi_startproc\n\tmovl\t$1, x(%rip)\n\tmovl\ty(%rip), %eax\n\tret\n.LFE0:\n\t.size\tf, .-f\ng:\n\tmovl\t$1, y(%rip)\n\tlock orq\t$0, (%rsp)\n\tret\n\t.data\ny:\n\t.long\t5\n'
-FROM_GCC = "X86 pasted\n{ y=5; }\n P0          | P1         ;\n MOV [x],$1  | MOV [y],$1 ;\n MOV EAX,[y] | MFENCE     ;\n"
+FROM_GCC = "X86 pasted\n{ y=5; }\n P0          | P1         ;\n MOV [x],$1  | MOV [y],$1 ;\n MOV EAX,[y] | MFENCE     ;\nexists (0:EAX=0)\n"
 DIY = "X86_64 SB\n{\nuint64_t x; uint64_t 0:rax;\nuint64_t 1:rbx=1;\n}\n P0 | P1 ;\n movq $1,(x) | movq $1,(y) ;\n movq (y),%rax | movl (x),%r8d ;\nexists (0:rax=0 && 1:r8==0)\n"
 FROM_DIY = "X86 SB\n{\n1:EBX=1;\n}\n P0          | P1          ;\n MOV [x],$1  | MOV [y],$1  ;\n MOV EAX,[y] | MOV EAX,[x] ;\nexists (0:EAX=0 /\\ 1:EAX=0)\n"
 
@@ -326,6 +326,7 @@ def certain_row(bench):
             ("XADD [x],EBX | MFENCE ;", "'XADD [x],EBX' isn't read without LOCK, which makes it one step: LOCK XADD [x],EBX", "LOCK XADD [x],EBX | MFENCE ;"),
             ("exists (0:RAX=0)", "RAX has 64 bits, and registers have 32 here: EAX stands for it, write EAX", "exists (0:EAX=0)"),
             ("exists (0:EAX==0 && x=1 || y=1)", "'=': in a condition write /\\ for and, \\/ for or", "exists (0:EAX=0 /\\ x=1 \\/ y=1)"),
+            ("exists (0:EAX==0 and x=1 or y=1)", "and: in a condition write /\\ for and, \\/ for or", "exists (0:EAX=0 /\\ x=1 \\/ y=1)"),
             ("MFENCE | jnz a ;", "jnz isn't read: leave it out; write the one way that is taken", None)):
         faults += differs("of " + line, bench.value("repaired(%s, %s)?.text ?? null" % (json.dumps(line), json.dumps("hint: line 1: %s\n" % hint))), meant)
     aligned = bench.value("aligned('X86 a\\n{ x=0; }\\nP0|P1;\\nMFENCE|MOV EAX,[x];\\nexists (x=0)\\n')")

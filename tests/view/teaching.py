@@ -6,7 +6,7 @@ import re
 from bench import DIVIDING_LINE, EXAMPLES, FIRST, READY, differs, read, safety
 from driver import Driver
 from kept import faults_of_form, saved_page
-from lessons import focus_row, guided_row, press, views_row
+from lessons import focus_row, guided_row, own_test_row, press, views_row
 
 GALLERY = os.path.join(EXAMPLES, "gallery")
 TEST = read(EXAMPLES, FIRST).partition(DIVIDING_LINE)[0]
@@ -225,8 +225,8 @@ def taught_row(bench, folder):
 
 
 # Tests with the words that stand before their task once the page knows whether it can be done.
-TASKS = [("SB", "exists", "☐ Task: Make both loads read 0."), ("SB+mfences", "exists", "☐ Can this be done? End with 0 in P0's EAX and 0 in P1's EAX."),
-         ("SB", "~exists", "☐ Task: The test claims that no run ends so. End with 0 in P0's EAX and 0 in P1's EAX."),
+TASKS = [("SB", "exists", "☐ Task: Make both loads read 0."), ("SB+mfences", "exists", "☐ Can this be done? Make both loads read 0."),
+         ("SB", "~exists", "☐ Task: The test claims that no run ends so. Make both loads read 0."),
          ("SB", "forall", "☐ Task: The test claims that each run ends so. End otherwise than with 0 in P0's EAX and 0 in P1's EAX."),
          ("MP", "~exists", "☐ Can this be done? The test claims that no run ends so. End with 1 in P1's EAX and 0 in P1's EBX.")]
 
@@ -269,7 +269,7 @@ def done_by_answer_row(bench):
     bench.wait("!bench.task && document.querySelector('.states-sheet')")
     bench.value("document.querySelector('#states tr.met [data-choices]').click()")
     said = bench.text("#task")
-    is_so = said.startswith("☐ Task: Make both loads read 0. This run shows it. P") and said.endswith(" Now make it yourself.")
+    is_so = said.startswith("▷ Shown by the answer: Make both loads read 0. P") and said.endswith(" Now make it yourself.")
     faults += [] if is_so else ["of a run of the answer it says " + said]
     bench.value("backToOwnRun()")
     for word in "0s 1s 0s 1s 0d 1d".split():
@@ -300,7 +300,7 @@ def rows(page, folder):
         ("a lesson, false sharing", lambda: lesson_row(bench, "false-sharing", "document.querySelectorAll('.machine').length === 4 && " + SHARES)),
         *([("a lesson, compare and exchange", lambda: lesson_row(bench, "compare-and-exchange", "document.querySelector('.reason') !== null"))] if has_larger_set(bench) else []),
         ("a lesson that guides", lambda: guided_row(bench)),
-        ("the focus in a lesson", lambda: focus_row(bench)), ("a lesson shows its views again", lambda: views_row(bench)),
+        ("the focus in a lesson", lambda: focus_row(bench)), ("a lesson shows its views again", lambda: views_row(bench)), ("a test of one's own after a lesson", lambda: own_test_row(bench)),
         ("a lesson of the documents", lambda: documented_row(bench)),
         ("a lesson of a teacher", lambda: taught_row(bench, folder)),
         ("tasks", lambda: tasks_row(bench)),

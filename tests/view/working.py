@@ -193,9 +193,9 @@ def unfinished_row(bench):
     for act in ("", "showMet({ status: Tso.STATUS.unended, text: %s, hint: '' }, 32); " % json.dumps(json.dumps(met))):
         faults += differs("at its limit nothing is said of never", bench.value(act + "/never/i.test(byId('states').textContent)"), False)
     faults += differs("what was met", bench.value(ROWS_MET), ["0", "1"])
-    told = bench.value("possible.refuted = inputOf('why'), [waysOn('outcomes', { isStopped: true, met: 2, among: 5 }).textContent, document.querySelector('#states > .is-open') !== null]")
+    told = bench.value("possible.refuted = inputOf('why'), [waysOn('outcomes', { isStopped: true, met: 2, among: 5 }).textContent, document.querySelector('#states > [role=status] > .is-no') !== null]")
     faults += differs("where why has answered", told[0].startswith("Show what was met 2 outcomes, among the first 5 states. Later ones weren't told yet.Show it “Why” has shown that no run ends as"), True)
-    faults += differs("a sign of what is open", told[1], True)
+    faults += differs("what why says behind it", told[1], True)
     bench.open_fresh()
     bench.fill("test", read(EXAMPLES, "algorithms", "SEQLOCK.litmus"))
     bench.value("settingOf('cases').value = 1; askWhy()")

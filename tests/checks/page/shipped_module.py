@@ -4,8 +4,6 @@ Where the sources that it was made of are those that stand, that program is the 
 module's own sources: that of the commit that last touched view/module.js, which has to have these sources; or, where the history doesn't
 reach so far, the one that stands, if it is of these sources.
 """
-import base64
-import binascii
 import hashlib
 import os
 import re
@@ -13,6 +11,8 @@ import subprocess
 import typing
 import zlib
 
+import checks.tools  # puts the tools on the path
+import packing
 from checks.judging import TOP
 
 SCRIPT = os.path.join("view", "module.js")
@@ -21,7 +21,7 @@ SCRIPT = os.path.join("view", "module.js")
 FORM = re.compile(
     rb"// The machine: the proved code of version (?P<version>[0-9.]+) as a module of WebAssembly\. Made by tools/page --renew: "
     rb"not to be changed by hand\.\n'use strict';\n\nconst MODULE = \{\n  version: '(?P=version)',\n"
-    rb"  sources: '(?P<sources>[0-9a-f]{64})',\n  tools: '(?P<tools>[^'\\\n]+)',\n  packed:\n    '(?P<packed>[A-Za-z0-9+/=]+)',\n\};\n")
+    rb"  sources: '(?P<sources>[0-9a-f]{64})',\n  tools: '(?P<tools>[^'\\\n]+)',\n  packed:\n    '(?P<packed>[0-9A-Za-z!#$%&()*+,;=>?@^_`{|}~-]+)',\n\};\n")
 
 # What a digest is made of, by tools/digests, in this order; the first two are lists of a release too.
 LISTS = ("sources", "proofs", "page")
@@ -56,8 +56,8 @@ def unpacked(packed):
     """The bytes of a module, opened as strictly as a browser does."""
     try:
         opening = zlib.decompressobj(GZIP)
-        module = opening.decompress(base64.b64decode(packed, validate=True))
-    except (binascii.Error, zlib.error) as fault:
+        module = opening.decompress(packing.bytes_of(packed if isinstance(packed, str) else packed.decode()))
+    except (ValueError, zlib.error) as fault:
         raise Fault("its module can't be unpacked: %s" % fault) from None
     if not opening.eof or opening.unused_data:
         raise Fault("its module isn't packed as one whole")
