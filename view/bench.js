@@ -24,7 +24,7 @@ function countChoices(text) {
   return drawn + (text.match(/\S+/g)?.length ?? 0);
 }
 
-/** The same choices, but no more than so many: a seed's last number is made smaller. A run that ends within these is the same run. */
+/** The same choices, but no more than so many: a seed's last number is made smaller. */
 function firstChoices(text, most) {
   const kept = [];
   let left = most;
@@ -64,7 +64,7 @@ const NOTICES = '#words-copied, #copied, #report-copied, .page-saved';
 const nearest = (places, part = document.activeElement) => part
   && ([...part.querySelectorAll(places)].find(each => each.checkVisibility()) ?? nearest(places, part.parentElement));
 
-/** Says what was saved or copied last, at the nearest of these places, and takes away what was said before. */
+/** Says what was saved or copied last, at the nearest of these places alone. */
 function sayDone(places, said) {
   const place = nearest(places) ?? document.querySelector(places);
   for (const notice of document.querySelectorAll(NOTICES)) putText(notice, notice === place ? said : '');
@@ -84,7 +84,7 @@ function showWordsLine(command) {
   byId('words-line').replaceChildren(...words.flatMap(word => [html('span', { class: 'unbroken' }, word), ' ']));
 }
 
-/** Shows what is asked: its line, its address and its words on the command line. Answers the settings as they are read. */
+/** Shows what is asked. Answers the settings as they are read. */
 function showAsked(command) {
   const settings = readSettings(command);
   drawShare();
@@ -136,13 +136,13 @@ function reportNow() {
   return bench.answer;
 }
 
-/** Shows the answer in the form that is wanted. Of a run that is driven on the report is made anew. */
+/** Shows the answer in the form that is wanted, of a driven run anew. */
 function showReport() {
   if (currentCommand() === 'run' && bench.answer === null) putFormats({ printed: reportNow().text });
   return showFormat();
 }
 
-/** Shows an answer: what was refused is marked, and a run that was shown before isn't any more. */
+/** Shows an answer in the place of a run, and marks what is refused. */
 function showAnswer(answer) {
   Object.assign(bench, { answer, told: null });
   const isText = answer.status !== Tso.STATUS.refused && answer.text !== '';
@@ -189,7 +189,7 @@ const answerTitle = text => html('h2', { class: 'answer-title', tabindex: -1 }, 
 /** Whether what works, or has ended, was begun beside the test. */
 const isAskedBeside = () => byId('test-part').open && byId('test-part').contains(working.asker);
 
-/** Of an answer that was asked for from the test, or beside it: says the first sentence there, so that the test stays in sight. Answers whether it did. */
+/** Says the first sentence of an answer beside the test that asked for it, which stays in sight. Answers whether it did. */
 function saidInBrief() {
   const said = byId('states').querySelector('[role=status] strong')?.textContent ?? '';
   const isBeside = isAskedBeside() && (working.asker === byId('test') || byId('commands').offsetTop < byId('told').offsetTop);
@@ -201,7 +201,7 @@ function saidInBrief() {
 const HIGH = 0.25; // of the window's height: what begins there needs no scrolling
 const TOO_LOW = 0.7; // what begins below it does
 
-/** Puts the focus on the answer that was asked for, and brings it into sight. A lesson goes on from it with Next. */
+/** Puts the focus on the answer, in sight. A lesson goes on from it with Next. */
 function focusAnswer() {
   const title = byId('states').querySelector('.answer-title') ?? byId('report');
   const top = lesson.told !== null ? byId('lesson') : byId('way-back').hidden ? title : byId('way-back');
@@ -216,7 +216,7 @@ function focusAnswer() {
   else focusStep();
 }
 
-/** Folds the text of an answer that is JSON and that a sheet shows; JSON that somebody reads stays open. */
+/** Folds the JSON of an answer that a sheet shows, unless somebody reads it. */
 function foldReport(answer) {
   const isRead = byId('report-part').open && byId('as-json').checked;
   putFormats({ json: answer.text });
@@ -262,7 +262,7 @@ function judgeOrder(command) {
   focusAnswer();
 }
 
-/** Whether a run that was found has room in store buffers of another depth: it ends there too, and no choice stalls. */
+/** Whether a run that was found ends in store buffers of another depth too, and no choice stalls. */
 function hasRoom(choices, depth) {
   const { options } = readSettings('run'), text = `${inputOf('sweep')}${DIVIDING_LINE}\n${choices}\n`;
   if (options === undefined || countChoices(choices) > MOST_STEPS) return false;
@@ -273,8 +273,7 @@ function hasRoom(choices, depth) {
 /** Puts the focus on the machine's heading. */
 const focusMachine = () => document.querySelector('#machines h3')?.focus({ preventScroll: true });
 
-/** Runs choices that were found. The bus is atomic, as it was when they were found. One's own store buffers stay where the run has room in
- * them, and else they are as deep as they were then. */
+/** Runs choices that were found, with an atomic bus as then, and with one's own store buffers where the run has room in them. */
 function loadChoices(choices, found) {
   keepOwnRun();
   const before = JSON.parse(ownRun.kept.settings).find(([name]) => name === 'depth')?.[1] ?? SET_AT_FIRST.depth;

@@ -58,9 +58,9 @@ function showPrograms() {
 }
 
 /** Of a machine that did the same as the first in each step so far: that it did. */
-function asFirst({ steps }, count) {
-  const { steps: first, options } = firstHistory(), toldOf = all => JSON.stringify(all.slice(0, count));
-  return count > 0 && steps !== first && toldOf(steps) === toldOf(first) ? `, as ${options.protocol.toUpperCase()} so far` : '';
+function asFirst(history, count) {
+  const { steps } = history, { steps: first, options } = firstHistory(), toldOf = all => JSON.stringify(all.slice(0, count));
+  return count > 0 && steps !== first && toldOf(steps) === toldOf(first) ? `, as ${options.protocol.toUpperCase()} ${history.hasEnded(count) ? 'in this run' : 'so far'}` : '';
 }
 
 const saidOtherwise = ({ sentences: own }, { sentences: first }) => own.filter(each => !first.includes(each)).join(' ') ||

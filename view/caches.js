@@ -35,7 +35,7 @@ function wantCaches(isWanted) {
 }
 
 /** Where a step read its word, as a machine without caches has it: in a store buffer, or in memory. */
-const plainSupply = supply => (supply === null || supply.from === 'buffer' ? supply : { ...supply, from: 'memory', owner: null });
+const plainSupply = supply => (supply?.isTaken ? null : supply === null || supply.from === 'buffer' ? supply : { ...supply, from: 'memory', owner: null });
 
 /** A machine in words for readers, which a lesson brings one by one; `machineName` is for addresses. */
 const machineTitle = options => `${lesson.told === null ? `${options.protocol.toUpperCase()}, ${options.bus} bus` : 'Caches'}, ${plainMachineName(options)}${wordsSaid(options)}`;

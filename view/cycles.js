@@ -4,7 +4,7 @@
 
 const EVENTS = { least: 120, side: 44, code: 20, line: 15, box: 26, gap: 6, head: 30, thin: 6, letter: 8, place: 4, smaller: 0.7 };
 const CHIP_LETTERS = 13;
-const NARROW = { least: 116, side: 26, letters: 14, smaller: 0.76, from: 0.9, step: 8, most: 40 }; // for lanes that don't fit the window
+const NARROW = { least: 116, tight: 94, side: 26, letters: 14, few: 12, smaller: 0.85, from: 0.9, step: 8, most: 40 }; // for lanes that don't fit the window
 
 /** The events that edges name, each once. */
 const eventsOf = edges => [...new Map(edges.flatMap(({ from, to }) => [from, to]).map(text => [nameOfEvent(text), eventOf(text)])).values()];
@@ -22,19 +22,19 @@ function topsOfRows(rows, highOf, channels, codes) {
   return tops;
 }
 
-/** An instruction's lines: two in a narrow lane, if it is long. */
-function linesOfCode(text, place, isNarrow) {
+/** An instruction's lines: two, if it has more letters than a lane has room for. */
+function linesOfCode(text, place, letters) {
   const whole = `${place}  ${text}`;
-  return isNarrow && whole.length > NARROW.letters ? whole.split(/ (?=\S+$)/) : [whole];
+  return whole.length > letters ? whole.split(/ (?=\S+$)/) : [whole];
 }
 
 /** The heights of instructions. */
-const codesOf = (programs, rows, isNarrow) => Array.from({ length: rows }, (_, row) =>
-  EVENTS.code + EVENTS.line * (Math.max(...programs.map(program => linesOfCode(program[row] ?? '', row, isNarrow).length)) - 1));
+const codesOf = (programs, rows, letters) => Array.from({ length: rows }, (_, row) =>
+  EVENTS.code + EVENTS.line * (Math.max(...programs.map(program => linesOfCode(program[row] ?? '', row, letters).length)) - 1));
 
 /** The room beside the boxes of a lane, and beside the outer lanes (`margin`), for the longest letters; of narrow lanes, between two of them. */
 function sidesFor(edges, isNarrow, added) {
-  const longest = ROUTES.letter * Math.max(0, ...edges.map((_, at) => lettersAt(edges, at, isNarrow).length)) + ROUTES.around + 4;
+  const longest = ROUTES.letter * Math.max(0, ...edges.map((_, at) => lettersAt(edges, at, isNarrow).length)) + ROUTES.around + (isNarrow ? 6 : 4);
   if (!isNarrow) return { side: Math.max(EVENTS.side, longest + ROUTES.around), margin: 0 };
   const side = Math.max(NARROW.side, Math.ceil(longest / 2)) + added;
   return { side, margin: Math.max(0, longest - side) };
@@ -47,21 +47,28 @@ function wordsOfPrograms(programs, { margin, lane, side, tops, codes }) {
     ...program.map((_, place) => ({ x: margin + core * lane + side, y: tops[place] + 2, width, height: codes[place] - 4 }))]);
 }
 
+const HALL = { high: 0.43, most: 48 }; // of a lecture's window, and pixels between two rows
+
+/** How much further apart rows stand where a lecture has room. */
+const roomBetween = (rows, width, height) => (isLecture() && rows > 1 ? Math.min(HALL.most, Math.max(0, width * HALL.high * innerHeight / (innerWidth - aroundPicture()) - height) / (rows - 1)) : 0);
+
 /** Where each event's box stands, under its instruction. Narrow lanes have so much room (`added`) more beside their boxes. */
 function layOutEvents(programs, edges, isNarrow, added = 0) {
   const events = eventsOf(edges), rows = Math.max(...programs.map(program => program.length)), far = farEdges(edges), channels = channelsOf(far, rows);
   const widest = Math.max(...programs.flat().map(text => text.length + EVENTS.place), ...events.map(({ text }) => text.length));
   const { side, margin } = sidesFor(edges, isNarrow, added);
-  const lane = (isNarrow ? NARROW.least : Math.max(EVENTS.least, widest * EVENTS.letter + 12)) + 2 * side, codes = codesOf(programs, rows, isNarrow);
+  const doesFit = least => NARROW.smaller * (programs.length * (least + 2 * side) + 2 * margin + 2) <= innerWidth - aroundPicture(), isTight = !doesFit(NARROW.least) && doesFit(NARROW.tight);
+  const lane = (!isNarrow ? Math.max(EVENTS.least, widest * EVENTS.letter + 12) : isTight ? NARROW.tight : NARROW.least) + 2 * side;
+  const letters = !isNarrow ? Infinity : isTight ? NARROW.few : NARROW.letters, codes = codesOf(programs, rows, letters);
   const isSecond = event => event.kind === 'LW' && events.some(other => other.kind === 'LR' && other.core === event.core && other.place === event.place);
   const heightOf = heightsOfBoxes(edges), own = ({ core, place }) => events.filter(each => each.core === core && each.place === place);
   const high = found => found.reduce((sum, event) => sum + heightOf(event) + EVENTS.gap, 0);
-  const tops = topsOfRows(rows, row => Math.max(0, ...programs.map((_, core) => high(own({ core, place: row })))), channels, codes);
+  const width = programs.length * lane + 2 * margin + 2, packed = topsOfRows(rows, row => Math.max(0, ...programs.map((_, core) => high(own({ core, place: row })))), channels, codes), apart = roomBetween(rows, width, packed.at(-1)), tops = packed.map((top, row) => top + apart * Math.min(row, rows - 1));
   const boxOf = event => ({
     x: margin + event.core * lane + side, width: lane - 2 * side, height: heightOf(event),
     y: tops[event.place] + codes[event.place] + (isSecond(event) ? high(own(event).filter(({ kind }) => kind === 'LR')) : 0),
   });
-  const placed = { cores: programs.length, isNarrow, margin, lane, side, tops, codes, far, channels, width: programs.length * lane + 2 * margin + 2, height: tops.at(-1) + 8 };
+  const placed = { cores: programs.length, isNarrow, letters, margin, lane, side, tops, codes, far, channels, width, height: tops.at(-1) + 8 };
   return { ...placed, words: wordsOfPrograms(programs, placed), boxes: new Map(events.map(event => [nameOfEvent(event.text), { event, ...boxOf(event) }])) };
 }
 
@@ -81,7 +88,7 @@ const drawPoint = relation => svg('marker', { id: `point-${relation}`, viewBox: 
 function drawLane(layout, program, at, core) {
   const { margin, lane, tops, height } = layout, left = margin + at * lane;
   return svg('g', {}, svg('rect', { class: 'lane', x: left + 1, y: 1, width: lane, height: height - 2 }), textAt({ class: 'head', x: left + lane / 2, y: 21 }, 17, `P${core}`),
-    ...program.flatMap((text, place) => linesOfCode(text, place, layout.isNarrow).map((line, down) => fittingText(
+    ...program.flatMap((text, place) => linesOfCode(text, place, layout.letters).map((line, down) => fittingText(
       { class: 'faint over', x: left + lane / 2, y: tops[place] + 14 + down * EVENTS.line }, 13, line, lane - 2 * layout.side))));
 }
 
@@ -91,11 +98,11 @@ function drawEvent({ event, ...box }) {
     fittingText({ x: box.x + box.width / 2, y: box.y + box.height / 2 + 5 }, 14, event.text.slice(event.text.indexOf(' ') + 1), box.width - 8));
 }
 
-const AROUND = 56; // pixels of a window that no picture has
+const aroundPicture = () => (innerWidth > 560 ? 56 : 32); // pixels of a window that no picture has
 const MANY_CORES = 4; // with more than these, cores without an edge are left out
-const FITTED = { letters: 9, above: 120 }; // of a picture that fits the screen
-const isTooLarge = ({ dataset: { least, high } }) => Number(least) > innerWidth - AROUND || Number(high) > innerHeight - FITTED.above;
-const fitsWell = figure => isTooLarge(figure) && CHIP_LETTERS * Number(figure.dataset.fit) >= FITTED.letters;
+const FITTED = { letters: 9, narrow: 11, above: 120 }; // of a picture that fits the screen
+const isTooLarge = ({ dataset: { least, high } }) => Number(least) > innerWidth - aroundPicture() || Number(high) > innerHeight - FITTED.above;
+const fitsWell = figure => isTooLarge(figure) && CHIP_LETTERS * Number(figure.dataset.fit) >= FITTED[figure.matches('.narrow') ? 'narrow' : 'letters'];
 const MANY_EDGES = 20; // with more than these, an execution is drawn with the edges at what its condition names, or those that are picked
 
 /** The cores that are drawn: of many those that have an event. */
@@ -115,7 +122,7 @@ function drawingOf(layout, edges) {
 
 /** The narrowest lanes in which chips cover least: up to what is too wide for the window, if in any all is clear. */
 function narrowDrawing(programs, edges, best = null, added = 0) {
-  const drawing = drawingOf(layOutEvents(programs, edges, true, added), edges), isWide = NARROW.smaller * drawing.layout.width > innerWidth - AROUND;
+  const drawing = drawingOf(layOutEvents(programs, edges, true, added), edges), isWide = NARROW.smaller * drawing.layout.width > innerWidth - aroundPicture();
   const better = best === null || (drawing.cost < best.cost && (drawing.cost === 0 || !isWide)) ? drawing : best;
   return better.cost === 0 || added === NARROW.most ? better : narrowDrawing(programs, edges, better, added + NARROW.step);
 }
@@ -139,10 +146,11 @@ function drawEdges(programs, edges, name) {
     svg('defs', {}, ...used.map(drawPoint)), ...edges.map((edge, at) => drawWay(ways[at], edge, at)),
     ...shown.map((program, lane) => drawLane(layout, program, lane, cores[lane])), ...[...layout.boxes.values()].map(drawEvent),
     ...edges.map((_, at) => drawLetters(chips[at], edges, at, isNarrow)));
+  picture.prepend(...picture.querySelectorAll('.lane')); // ways go over the lanes' lines
   const least = (isNarrow ? NARROW : EVENTS).smaller * layout.width;
   picture.style.width = `max(100%, ${least}px)`;
-  const fit = Math.min((innerWidth - AROUND) / layout.width, (innerHeight - FITTED.above) / layout.height);
-  const figure = html('figure', { tabindex: 0, 'aria-label': name, class: isNarrow ? 'narrow' : '', 'data-least': least, 'data-fit': fit, 'data-high': layout.height * Math.min(1, Math.max(least, innerWidth - AROUND) / layout.width) }, picture);
+  const fit = Math.min((innerWidth - aroundPicture()) / layout.width, (innerHeight - FITTED.above) / layout.height);
+  const figure = html('figure', { tabindex: 0, 'aria-label': name, class: isNarrow ? 'narrow' : layout.width > 7 * layout.height ? 'flat' : '', 'data-least': least, 'data-fit': fit, 'data-high': layout.height * Math.min(1, Math.max(least, innerWidth - aroundPicture()) / layout.width) }, picture);
   figure.style = `--grown: ${grownBy(layout) * layout.width}px; --wide: ${layout.width}px`; // in a lecture it takes the whole width
   return figure;
 }
@@ -153,7 +161,7 @@ const chipOf = (relation, isNarrow) => html('span', { class: `relation edge-${re
 function relationList(edges, isNarrow, arrow) {
   const used = usedRelations(edges);
   const item = relation => html('li', {}, chipOf(relation, isNarrow), ` ${meaningOf(relation, edges)}`);
-  return html('ul', { class: 'small relations', 'aria-label': 'How to read the picture' }, html('li', { class: 'key' }, sheet.key), html('li', {}, `Arrow: ${arrow}must be before.`), ...used.map(item));
+  return html('ul', { class: 'small relations', 'aria-label': 'How to read the picture' }, html('li', {}, `Arrow: ${arrow}must be before.`), ...used.map(item));
 }
 
 /** What a condition names: the last loads into its registers, and the last writes to its locations. */
@@ -169,25 +177,30 @@ const isAt = ({ from, to }, place) => [from, to].some(text => text.split(' ')[0]
 /** The edges at what is asked for, in its order. */
 const askedEdges = (edges, wanted) => [...new Set(wanted.flatMap(place => edges.filter(edge => isAt(edge, place))))];
 
-/** A cycle or an execution as `panelOf` draws it, first what matters, with boxes that show all and fit the screen. */
-function drawExecution(programs, edges, few, panelOf) {
-  const isWhole = drawnCores(programs, few).length === programs.length, fit = html('input', { type: 'checkbox' });
+const fitting = { isAsked: null }; // by the reader, for all pictures
+
+/** A cycle or an execution as `panelOf` draws it, first `few` edges (`which`), with buttons for others. */
+function drawExecution(programs, edges, few, panelOf, which = '') {
+  const isWhole = drawnCores(programs, few).length === programs.length, fit = html('input', { type: 'checkbox' }), fits = html('label', {}, fit, ' Fit the screen');
   let picked = null;
-  const draw = isAsked => {
+  const draw = () => {
     sheet.cycle = panelOf(picked?.length > 0 ? picked : few, picked?.length > 0);
-    if (!isAsked) fit.checked = fitsWell(sheet.cycle.picture);
-    sheet.cycle.picture.classList.toggle('fits', fit.checked);
+    const { picture } = sheet.cycle;
+    fit.checked = fitting.isAsked ?? fitsWell(picture);
+    fits.hidden = !isTooLarge(picture);
+    picture.classList.toggle('fits', fit.checked);
     return sheet.cycle.element;
   };
   const isMany = few.length < edges.length, isLarge = isTooLarge(drawEdges(programs, edges, ''));
   if (!isMany && isWhole && !isLarge) return draw();
-  const left = isMany ? `Drawn are ${few.length} of ${edges.length} arrows, those at what is asked for.` : isWhole ? '' : 'Cores without an arrow are left out.';
-  const place = html('div', {}, draw()), said = html('span', {}, left), picks = isMany ? pickButtons(edges) : [], fits = isLarge ? [html('label', {}, fit, ' Fit the screen')] : [];
-  const words = html('p', { class: 'buttons small' }, ...(left === '' ? [] : [said]), ...(isMany ? [html('span', {}, 'Pick others:')] : []), ...picks, ...fits);
-  const redraw = isAsked => place.replaceChildren(draw(isAsked));
+  const left = isMany ? `Drawn are ${few.length} of ${edges.length} arrows, ${which}.` : isWhole ? '' : 'Cores without an arrow are left out.';
+  const place = html('div', {}, draw()), said = html('span', {}, left), picks = isMany ? pickButtons(edges) : [];
+  const words = html('p', { class: 'buttons small' }, ...(left === '' ? [] : [said]), ...(isMany ? [html('span', {}, 'Pick others:')] : []), ...picks, ...(isLarge ? [fits] : []));
+  const redraw = () => place.replaceChildren(draw());
   words.addEventListener('change', () => {
     const { shown } = sheet.cycle;
-    redraw(true);
+    fitting.isAsked = fit.checked;
+    redraw();
     sheet.cycle.show(shown);
   });
   words.addEventListener('click', ({ target }) => {
@@ -203,7 +216,8 @@ function drawExecution(programs, edges, few, panelOf) {
 /** A button for each core and each location of some edges, by which one picks those that are drawn; its value stands in their texts. */
 function pickButtons(edges) {
   const events = eventsOf(edges), marks = [events.map(({ core }) => `P${core}:`), events.map(({ location }) => ` ${location}=`)].flatMap(each => each.sort());
-  return [...new Set(marks)].map(value => html('button', { type: 'button', class: 'pick', 'aria-pressed': 'false', value }, value.slice(0, -1).trim()));
+  const pick = (value, text) => html('button', { type: 'button', class: 'pick', 'aria-pressed': 'false', value }, text);
+  return [pick('P', 'all'), ...[...new Set(marks)].map(value => pick(value, value.slice(0, -1).trim()))];
 }
 
 /** The edges at the cores and at the locations whose buttons are pressed; null where none is. */
@@ -222,19 +236,20 @@ class CyclePanel {
     this.legend = relationList(cycle, isNarrow, arrow);
     this.place = html('div', { class: 'pictured-cycle' }, picture);
     this.sentences = html('ol', { class: 'edges', 'aria-label': 'The edges, one after the other' },
-      ...cycle.map((edge, at) => html('li', { tabindex: 0, 'data-arrow': at }, chipOf(edge.relation, isNarrow), ` ${edgeSentence(edge)}`)));
-    this.end = html('p', {}, end);
+      ...cycle.map((edge, at) => html('li', { tabindex: 0, 'data-arrow': at }, chipOf(edge.relation, isNarrow), ' ', ...unbroken(edgeSentence(edge)))));
+    this.end = html('p', {}, ...unbroken(end));
     this.count = html('span', {});
     this.said = html('p', { class: 'edge-said', role: 'status' });
     this.buttons = Object.entries({ first: 'First arrow', back: 'Arrow back', next: 'Next arrow', all: 'All arrows' })
       .map(([name, text]) => html('button', { type: 'button', 'data-edges': name }, text));
     this.bar = html('div', { class: 'stepping' }, html('div', { class: 'buttons' }, ...this.buttons, this.count), this.said);
     this.told = html('div', { class: cycle.length > FEW_BESIDE ? 'told-edges many' : 'told-edges' }, html('div', {}, this.sentences, this.end), this.legend);
-    this.element = html('div', { class: isNarrow ? 'cycle slim' : 'cycle' }, ...(cycle.length > 1 ? [this.bar] : []), this.place, this.told);
+    this.element = html('div', { class: isNarrow ? 'cycle slim' : `cycle ${picture.className}` }, html('p', { class: 'small faint key' }, keyOfEdges(cycle)), ...(cycle.length > 1 ? [this.bar] : []), this.place, this.told);
     this.place.style = picture.style.cssText;
     new ResizeObserver(() => this.seeHeight()).observe(picture);
     for (const kind of ['pointerover', 'focusin']) this.element.addEventListener(kind, ({ target }) => this.point(target));
     this.element.addEventListener('pointerleave', () => this.point(document.activeElement));
+    this.element.addEventListener('focusout', ({ relatedTarget }) => this.point(relatedTarget ?? document.body));
     this.show(0);
   }
 
@@ -270,8 +285,8 @@ class CyclePanel {
     this.show({ first: 1, back: this.shown - 1, next, all: this.last }[way]);
     if (this.shown === 0 || this.shown > this.cycle.length) return;
     if (this.element.matches('.tall')) return this.scrollTo(this.shown - 1);
-    const { top, bottom } = this.picture.querySelector('[data-letters].now').getBoundingClientRect();
-    if (this.least === 0 && (top < 0 || bottom > innerHeight)) scrollBy(0, this.picture.getBoundingClientRect().bottom - innerHeight + CLEAR);
+    const { top, bottom } = (this.isNarrow ? this.picture : this.picture.querySelector('[data-letters].now')).getBoundingClientRect();
+    if ((this.isNarrow || this.least === 0) && (top < 0 || bottom > innerHeight)) scrollBy(0, this.picture.getBoundingClientRect().bottom - innerHeight + CLEAR);
   }
 
   /** Places the legend under the picture or under the list beside it, where the sheet is lower so. Notes whether the picture is higher than the
@@ -300,9 +315,9 @@ class CyclePanel {
   /** What the step says, where the sentences aren't beside the picture, and for readers of screens. */
   say(edge) {
     const isEnd = this.end.textContent !== '' && (this.shown === this.closed || this.shown === this.last);
-    const said = edge === undefined ? [this.shown > 0 ? 'All arrows that are drawn.' : isLecture() ? 'The arrows come one by one.' : 'Each arrow says what must be before what. “Next arrow” tells them one by one.'] : [`${arrowName(this.shown - 1)} `, chipOf(edge.relation, this.isNarrow), ` ${edgeSentence(edge)}`,
-      html('span', { class: 'faint' }, ` ${meaningOf(edge.relation, this.cycle)}`)];
-    this.said.replaceChildren(...said, ...(isEnd ? [' ', html('strong', {}, this.end.textContent)] : []));
+    const said = edge === undefined ? [this.shown > 0 ? 'All arrows that are drawn.' : isLecture() ? 'The arrows come one by one.' : 'Each arrow says what must be before what. “Next arrow” tells them one by one.'] : [`${arrowName(this.shown - 1)} `, chipOf(edge.relation, this.isNarrow), ' ', ...unbroken(edgeSentence(edge)),
+      html('span', { class: 'faint' }, edge.relation === 'fr' ? ' fr is “from read”.' : ` ${meaningOf(edge.relation, this.cycle)}`)];
+    this.said.replaceChildren(...said, ...(isEnd ? [' ', html('strong', {}, ...unbroken(this.end.textContent))] : []));
   }
 
   show(step) {

@@ -10,8 +10,7 @@ function showDrive() {
   byId('run').classList.toggle('fresh', count === 0);
   showPicture();
   const step = history.steps[count - 1];
-  const before = step && history.machineAfter(count - 1);
-  const said = step ? `${beforeSentence(step)}${stepSentences(step, before, history.programs, isPlain).join(' ')}` : count === 0 ? startSentence(history) : 'The first machine\'s test has ended.';
+  const said = step ? saidOfStep(step) : count === 0 ? startSentence(history) : 'The first machine\'s test has ended.';
   byId('sentence').textContent = lesson.told ? '' : said + (isPlain ? '' : sharedLine(history, count));
   byId('count').textContent = `${choicesSaid(count)} made`;
   showMoves();
@@ -26,11 +25,13 @@ function showDrive() {
   keepInSight();
 }
 
-/** Before a step's sentence: its code, but not in a lecture; of machines abreast, where they differ, those that do as the first. */
-function beforeSentence({ choice }) {
-  const { panels } = drawn, same = panels.filter(({ sentences }) => sentences.join() === panels[0].sentences.join());
-  const under = panels.length < 3 || same.length === panels.length ? '' : ` under ${listed(same.map(({ history }) => history.options.protocol.toUpperCase()))}`;
-  return isLecture() ? under && `${under.replace(' u', 'U')}: ` : `${choice}${under}: `;
+/** A step's sentences, after its code but in a lecture. Of machines abreast that differ: what all did, but for what columns show, and what each did. */
+function saidOfStep({ choice }) {
+  const { panels } = drawn, first = panels[0].sentences, code = isLecture() ? '' : `${choice}: `, isOfAll = each => panels.every(({ sentences }) => sentences.includes(each));
+  const own = ({ sentences }) => sentences.filter(each => !isOfAll(each)).join(' '), ways = [...new Set(panels.map(own))];
+  if (panels.length < 3 || ways.length === 1) return code + first.join(' ');
+  const under = ways.filter(Boolean).map(said => `Under ${listed(panels.filter(panel => own(panel) === said).map(({ history }) => history.options.protocol.toUpperCase()))}: ${said}`);
+  return code + [...first.filter(each => isOfAll(each) && !/^A miss|on the bus\.$/.test(each)), ...under].join(' ');
 }
 
 /** Scrolls to what the last choice changed. It has the browser lay the page out, so it comes last. */
@@ -104,7 +105,7 @@ function showPicture() {
   drawn.picture.show(firstHistory(), drive.count);
   const isOver = firstHistory().hasEnded(drive.count), isEmpty = drawn.picture.rows.length === 0;
   byId('frame').parentElement.classList.toggle('ended', isOver);
-  putText(byId('order-title'), isOver ? 'Memory order' : isEmpty ? 'Memory order: nothing yet' : 'Memory order so far');
+  putText(byId('order-title'), isOver ? 'Memory order' : isEmpty ? 'Memory order: no rows yet' : 'Memory order so far');
   const { layout: { top }, extent, bottom } = drawn.picture, most = frameMost() * innerHeight;
   const height = isLecture() ? Math.max(firstHistory().cores > 2 ? 0 : most - 10, top(mostRows(firstHistory().programs)) + STRIP - HEAD) : bottom - HEAD;
   extent.style.minHeight = isLecture() && height <= most ? `${height}px` : '';

@@ -21,7 +21,7 @@ function partsOf(text) {
   return { test: at > 0 ? test + '\n' : test, rest: lines.slice(at + 1).join('\n') };
 }
 
-/** Puts a whole input into the fields: its second part is an order where it has a line `Order`, else choices. */
+/** Puts a whole input into the fields; a second part with a line `Order` is an order, else choices. */
 function putInput(text) {
   const { test, rest } = partsOf(text.replace(/\r\n/g, '\n'));
   const isOrder = rest !== null && /^(Order|Endorder\b.*)$/m.test(rest);
@@ -32,7 +32,7 @@ function putInput(text) {
   return isOrder;
 }
 
-// The field of choices. A long text takes long to lay out, so where nobody sees the field choices come there later.
+// The field of choices. Laying out a long text takes long, so it comes there when the field is in sight.
 
 const choicesField = { unwritten: null, isInSight: true };
 
@@ -65,16 +65,26 @@ function seeChoices(isInSight) {
   if (isInSight) writeChoices();
 }
 
-// A field that marks a line has a column of numbers and, under its text, a band for the line that is marked.
-
-const wideLine = () => Math.max(78, innerWidth / 16.5); // letters, from which on a test has the whole width
+// A field that marks a line has a column of numbers and a band under the line.
 
 const ROWS = { least: 12, most: 18 }; // of the field of a test, which grows with it
 
-/** Gives a test with long lines the whole width. The list under it folds then. */
+/** Gives a test that has no room beside the settings the whole width, the main button below it, and folds the list. */
 function showWidth() {
-  const { classList } = byId('test-part'), wasWide = classList.contains('wide');
-  if (classList.toggle('wide', byId('test').value.split('\n').some(line => line.length > wideLine())) && !wasWide) byId('library').open = false;
+  const { classList, open } = byId('test-part'), field = byId('test'), wasWide = classList.contains('wide'), top = scrollY;
+  const key = `${Math.max(...field.value.split('\n').map(line => line.length))} ${innerWidth}`;
+  if (!open || field.dataset.room === key) return;
+  field.dataset.room = key;
+  classList.remove('wide');
+  if (classList.toggle('wide', field.scrollWidth > field.clientWidth) && !wasWide) byId('library').open = false;
+  const isWide = classList.contains('wide'), buttons = byId('begin').parentElement, place = byId(isWide ? 'brief' : 'settings');
+  if (buttons.parentElement !== place.parentElement) place[isWide ? 'before' : 'after'](buttons);
+  if (wasWide) scrollTo(0, top);
+}
+
+function placeAll() {
+  showWidth();
+  for (const id of ['test', 'given']) placeLines(id);
 }
 
 /** Draws the numbers of a field's lines, and marks this one; null marks none. */
@@ -124,6 +134,9 @@ function cellsOf(line) {
   });
 }
 
+/** A hint with the whole of the cell that it quotes cut off. */
+const inFull = (hint, line) => hint.replace(/'([^']+?)\.\.'/, (all, cut) => `'${cellsOf(line).find(({ text }) => text.startsWith(cut))?.text ?? cut}'`);
+
 /** The cell at fault in a line: the hint begins with it, or with a word that it alone has; else null. */
 function cellAtFault(line, hint) {
   if (/^X86|[{}]/.test(line) || !/[|;]/.test(line)) return null; // no row of programs
@@ -157,12 +170,12 @@ function plainChoice(number, name) {
   return why ? `${choicesText().includes('seed') ? 'Word' : 'Choice'} ${number}, ${word}: ${why}.` : '';
 }
 
-/** What is refused, in plain words: the line, the core whose cell is at fault, and why. */
+/** What is refused, in plain words: line, core, and why. */
 function plainRefusal(place, cell, line, hint) {
   const name = line.trim().split(' ').at(-1), why = pageHint(hint).replace(/^hint: (line \d+: )?/, '') || FAULTS[name];
   if (place?.word) return plainChoice(place.word, name);
   if (place?.line === undefined || why === undefined) return '';
-  return `${place.field === 'given' ? 'Order, line' : 'Line'} ${place.line}${cell === null ? '' : `, P${cell.core}`}: ${why}.`;
+  return `${place.field === 'given' ? 'Order, line' : 'Line'} ${place.line}${cell === null ? '' : `, P${cell.core}`}${/^ ?needs/.test(why) ? '' : ':'} ${why.trim().replace(/\bas 0:E/, `as ${cell?.core ?? 0}:E`)}.`;
 }
 
 /** Puts the caret at the line that is marked, and brings it into sight. */
@@ -175,9 +188,12 @@ function focusRefusal() {
 }
 
 /** Hints that name what is certain to be meant, with what is changed, and to what. */
-const CELL = /^'?(.+?)'?(?=:| is).*(?:: write|one step:) ((?:LOCK )?[A-Z]+(?: \S+)?)\s*$/, SIGNS = { '&': '/\\', a: '/\\', '|': '\\/', o: '\\/', '=': '=' };
+const CELL = /^'?(.+?)'?(?=:| is).*(?:: write|one step:) ((?:LOCK )?[A-Z]+(?: [^\s;]+)?)(; leave out the ;.*)?\s*$/, SIGNS = { '&': '/\\', a: '/\\', '|': '\\/', o: '\\/', '=': '=' };
 const REPAIRS = [
   [/^(\w+) (?:is no register|has 64 bits).*write (\w+)\s*$/, ([, word, other]) => [new RegExp(`\\b${word}\\b`, 'gi'), other]],
+  [/^([\w ]+?)(?: is no instruction| isn't read)?: write (~?exists|forall)\s*$/, ([, word, other]) => [new RegExp(`\\b${word}\\b`), other]],
+  [/^(; stands behind )?fence\b/i, () => [/(?<=(^|\|)\s*)fence(\s*;(?=.*[|;]))?(?=\s*([|;]|$))/gi, 'MFENCE']],
+  [/^; stands twice/, () => [/;(?:\s*;)+/, ';']],
   [/^no ; ends th(is|e) row/, () => [/\s*$/, ' ;']],
   [/^('[&|=]'|and|or): in a condition/, () => [/&&?|\|\|?|==|\b(?:and|or)\b/g, ([first]) => SIGNS[first]]],
 ];
@@ -185,21 +201,30 @@ const LISTING = /^(hint: line \d+: )?(instructions alone|this is an assembler)/;
 const MOST_REPAIRED = 256; // as many cells as a test has
 const MOST_SAID = 4; // kinds of changes
 
-/** A compiler's or an assembler's listing as a test: what follows each label is a core's. Null where it jumps, or isn't plain. */
-function listingAsTest(text) {
+/** The first line of a listing that can't stand in a test, and what is said of all such; null where there is none. */
+function barredIn(listing) {
+  const all = [...listing.matchAll(/^[ \t]*((?:j|loop|call|set)\w*|(?:test|cmp)[bwlq]?)(?!\S)/gim)].map(({ 1: word, index }) => [countLines(listing.slice(0, index)), word]);
+  const said = listed(all.slice(0, MOST_SAID).map(([line, word]) => `line ${line} (${word})`)).slice(1);
+  return all[0] ? { field: 'test', line: all[0][0], said: `L${said}: there are no jumps, compares or calls here. Keep the one way that is taken: without such lines this can be written as a test.` } : null;
+}
+
+/** A listing as a test: what follows each label is a core's. Null where it jumps, compares or calls, or isn't plain. */
+function listingAsTest(listing) {
+  const written = listing.replace(/\[rip ?\+ ?(\w+)\]/gi, '$1[rip]'), places = /\b(?:r\d+|[re]?(?:[a-d]x|[sd]i|[sb]p)|[a-d][lh])(?=\(%rip\)|\[rip\]|:\s+\.(?:long|int|quad))/gi; // named as registers are
+  const other = name => (written.includes(`_${name}`) ? other(`_${name}`) : `_${name}`), text = written.replace(places, other);
   const cores = [[]], left = /^$|^\.|^(ret|endbr64|nop|leave|push|pop)|^mov.*(bp\W.*sp|sp\W.*bp)/i;
-  if (/^\s*j\w+\s+\.L/im.test(text)) return null;
-  for (const line of text.split('\n').map(each => plainCell(each.replace(/(#|;|\/\/).*/, ''))).filter(each => !left.test(each))) {
+  if (barredIn(text)) return null;
+  for (const line of text.split('\n').map(each => each.replace(/(#|;|\/\/).*/, '').replace(/\s+/g, ' ').trim()).filter(each => !left.test(each))) {
     if (/:$/.test(line)) cores.push([]);
     else if (cores.at(-1).push(line) && !/^[a-z]/i.test(line)) return null;
   }
   const programs = cores.filter(core => core.length > 0), most = Math.max(...programs.map(core => core.length));
   const start = [...text.matchAll(/^(\w+):\s+\.(?:long|int|quad)\s+([1-9]\d*)\s*$/gm)].map(([, name, word]) => ` ${name}=${word};`).join('');
   const row = at => ` ${programs.map((core, number) => (at < 0 ? `P${number}` : core[at] ?? '')).join(' | ')} ;\n`;
-  return most > 0 ? { text: `X86 pasted\n{${start} }\n${Array.from({ length: most + 1 }, (_, at) => row(at - 1)).join('')}`, count: 1, isOther: true, said: `a test of ${programs.length} core${programs.length === 1 ? '' : 's'}` } : null;
+  return most > 0 ? { text: `X86 pasted\n{${start} }\n${Array.from({ length: most + 1 }, (_, at) => row(at - 1)).join('')}`, count: 1, isOther: true, said: `a test of ${programs.length} core${programs.length === 1 ? '' : 's'}${[...new Set(written.match(places))].map(name => `, location ${name} became ${other(name)}`).join('')}` } : null;
 }
 
-/** A test of X86_64 as one of X86: registers have the names of 32 bits, and items no types. */
+/** A test of X86_64 as one of X86, without types. */
 function narrowed(test) {
   const items = /\bu?int(32|64)_t\s+([\w:]+\s*;[ \t]*\n?|(?=[\w:]+\s*=))/g, names = /\br([a-d]x|[sd]i)\b/gi;
   const text = test.replace('X86_64', 'X86').replace(items, '').replace(names, (all, rest) => `E${rest.toUpperCase()}`);
@@ -208,7 +233,7 @@ function narrowed(test) {
 
 const PLAIN_REGISTERS = ['EAX', 'EBX', 'ECX', 'EDX', 'ESI', 'EDI'];
 
-/** A test in which a register as R8D is one that its core doesn't use, in the condition too; null where none is left. */
+/** A test in which a register as R8D is one that its core doesn't use; null where none is left. */
 function renamed(lines, at, name) {
   const [first, last] = [lines.findIndex(line => /^\s*P\d+\s*[|;]/.test(line)), lines.findLastIndex(line => /;\s*$/.test(line))];
   const named = new RegExp(`\\b${name.replace(/^(r\d+)d?$/i, '$1d?')}\\b`, 'gi'), core = cellsOf(lines[at]).findIndex(({ text }) => text.search(named) >= 0), places = new RegExp(`\\b${core}:\\w+`, 'g');
@@ -219,29 +244,29 @@ function renamed(lines, at, name) {
   return free && core >= 0 ? { text: write(part => part.replace(named, free)), count: changed.match(named).length, isOther: true, said: `P${core}: ${name} became ${free}` } : null;
 }
 
-/** A test with what its hint says in each such place of its line, how many these are, and what they became; else null. */
+/** A test with what its hint says, in how many places, and what they became; else null. */
 function repaired(test, hint = '') {
   const [, number, said = ''] = /^hint: line (\d+): (.*)/.exec(hint) ?? [], at = number - (said.includes('cores in the line before') ? 2 : 1), lines = test.split('\n'), line = lines[at] ?? '';
   if (LISTING.test(said)) return listingAsTest(test);
   if (/^X86_64 tests|X86 in place of X86_64/.test(said)) return narrowed(test);
   const [, foreign] = / is for (\w+): take/.exec(said) ?? [];
   if (foreign) return renamed(lines, at, foreign);
-  const [, cell, other] = CELL.exec(said) ?? [], cells = cellsOf(line).filter(({ text }) => text === cell), [pattern, change] = REPAIRS.find(each => each[0].test(said)) ?? [];
-  const inCell = part => (plainCell(part) === cell ? part.replace(cell, () => other) : part), [from, to] = cells.length > 0 || !pattern ? [/[^|;]+/g, inCell] : change(pattern.exec(said));
+  const [, cell, other, isEnded] = CELL.exec(inFull(said, line)) ?? [], cells = cellsOf(line).filter(({ text }) => text === cell), [pattern, change] = REPAIRS.find(each => each[0].test(said)) ?? [];
+  const inCell = part => (plainCell(part) === cell ? part.replace(part.trim(), () => other) : part), [from, to] = cells.length > 0 || !pattern ? [/[^|;]+/g, inCell] : change(pattern.exec(said));
   const count = cells.length || (pattern && line.match(from)?.length);
   if (!count) return null;
   const parts = cells.length > 0 ? [cell] : [...new Set(line.match(from))], isOther = !parts[0].toUpperCase().startsWith(other?.split(' ')[0]);
-  const became = part => (part.trim() === '' ? '; was added' : `${part.replace(/ +/g, ' ')} became ${part.replace(from, cells.length > 0 ? () => other : to)}`);
-  lines[at] = line.replace(from, to);
+  const become = cells.length > 0 ? () => other : to, became = part => (part.trim() === '' ? '; was added' : `${part.replace(/ +/g, ' ')} became ${typeof become === 'string' ? become : part.replace(from, become)}`);
+  lines[at] = (isEnded ? line.replace(/;(?=.*[|;])/, '') : line).replace(from, to);
   return { text: lines.join('\n'), count, isOther, line: at + 1, said: parts.map(became).join(', ') };
 }
 
-/** What places became, each kind once, those first that have another instruction now. */
+/** What places became, each kind once, in the order of lines: of many those that have another instruction now. */
 function changesSaid(found) {
   const kinds = new Map();
   for (const { said, line } of found.toSorted((one, other) => Boolean(other.isOther) - Boolean(one.isOther))) kinds.set(said, [...(kinds.get(said) ?? []), ...(line ? [line] : [])]);
-  const all = [...kinds].map(([said, lines]) => (lines.length === 0 ? said : `line${lines.length > 1 ? 's' : ''} ${listed(lines)}: ${said}`)), more = all.splice(MOST_SAID).length;
-  return `${all.join('; ')}${more > 0 ? `; and ${more} more` : ''}. Undo takes all back. `;
+  const all = [...kinds], more = all.splice(MOST_SAID).length;
+  return `${all.sort(([, [one = 0]], [, [other = 0]]) => one - other).map(([said, lines]) => (lines.length === 0 ? said : `line${lines.length > 1 ? 's' : ''} ${listed(lines)}: ${said}`)).join('; ')}${more > 0 ? `; and ${more} more` : ''}. Undo takes all back. `;
 }
 
 /** A test whose programs have their columns aligned; as it is where a row isn't plain. */
@@ -281,16 +306,23 @@ function writeRepairs() {
   putText(document.querySelector('.noticed'), isRefused ? said : notice.said);
 }
 
+/** A sentence with its code as code. */
+const withCode = said => said.split(/(\B'[^']+'(?=:| )|(?:\bLOCK )?\b[A-Z]{2,7} (?=\S*[[$,])\S*[^\s.:;,]|\bMFENCE\b|\d:E[A-Z]{2}(?:=\d+)?|\B;(?= at| behind|\.))/)
+  .map((part, at) => (at % 2 ? html('code', {}, part.replace(/^'(.*)'$/, '$1')) : part));
+
 /** Marks what is refused, or nothing, and says it in plain words. */
 function markRefusal({ text: line, hint }) {
-  const place = placeOfRefusal(line, hint), cell = place?.field === 'test' ? cellAtFault(byId('test').value.split('\n')[place.line - 1] ?? '', hint ?? '') : null;
-  byId('plain').textContent = plainRefusal(place, cell, line, hint ?? '');
+  const test = byId('test').value, place = (LISTING.test(hint) && barredIn(test)) || placeOfRefusal(line, hint), written = test.split('\n')[place?.line - 1] ?? '';
+  const said = inFull(hint ?? '', written), cell = place?.field === 'test' ? cellAtFault(written, said) : null;
+  const before = place?.field === 'test' ? document.querySelector('.writing .noticed') : byId('given-part');
+  if (before.nextElementSibling !== byId('told')) before.after(byId('told')); // next by Tab
+  byId('plain').replaceChildren(...withCode(place?.said ?? plainRefusal(place, cell, line, said)));
   byId('told').classList.toggle('by-hint', place?.line !== undefined);
   for (const id of ['test', 'given']) drawLines(id, place?.field === id && place.line ? place.line : null);
   markCell(cell);
   for (const id of ['test', 'choices', 'given']) byId(id).setAttribute('aria-invalid', String(place?.field === id));
   byId('remove-choices').hidden = !place?.word;
-  byId('write-so').hidden = place?.field !== 'test' || repaired(byId('test').value, hint) === null;
+  byId('write-so').hidden = place?.field !== 'test' || repaired(test, hint) === null;
   byId('write-so').textContent = LISTING.test(hint) ? 'Write it as a test' : 'Write it so';
 }
 

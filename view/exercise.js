@@ -119,7 +119,7 @@ byId('exercise-form').addEventListener('submit', event => {
   byId('exercise-form').hidden = true;
   saveExercise();
 });
-byId('exercise-see').addEventListener('click', () => window.open(`${location.pathname}#${exerciseAt(currentAddress(), questionToAsk())}`));
+byId('exercise-see').addEventListener('click', () => sayDone('.page-saved', window.open(`${location.pathname}#${exerciseAt(currentAddress(), questionToAsk())}`) ? 'Opened in a new tab.' : 'No new tab opened.'));
 document.addEventListener('click', ({ target }) => {
   if (target.dataset?.thought !== undefined) answerExercise(target.dataset.thought);
 });

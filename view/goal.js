@@ -17,6 +17,14 @@ function wantedWords(proposition) {
 
 const isRegister = ({ register }) => register !== undefined;
 const wantedSentence = places => listed(places.map(part => `${part.word} in ${placeWords(part)}`));
+const MANY_TERMS = 6; // from which on they stand below a sentence
+const isLongEnd = places => places !== null && places.length > MANY_TERMS;
+const endWords = places => (places === null || isLongEnd(places) ? 'so' : `with ${wantedSentence(places)}`);
+
+/** The terms of a long condition, in small letters; folded where they are very many. */
+const termsPart = places => (!isLongEnd(places) ? [] : [html('details', { class: 'small', ...(places.length > 2 * MANY_TERMS ? {} : { open: '' }) },
+  html('summary', {}, `What is asked for: ${places.length} values`), html('p', {}, `${wantedSentence(places)}.`))]);
+
 const placeWords = ({ core, register, location }) => (register === undefined ? location : `P${core}'s ${register}`);
 
 /** The same of two loads, where a test has no others; else empty. */
@@ -33,6 +41,7 @@ const quantifierOf = test => /^[ \t]*(~[ \t]*exists|exists|forall)\b/m.exec(test
 function taskSentence(name, proposition, quantifier, programs) {
   const own = TASKS[`${name} ${proposition}`], wanted = wantedWords(proposition);
   if (own && quantifier === 'exists' && (!own.includes('miss') || (showsCaches(drivenMachines()) && !isExercise()))) return own;
+  if (isLongEnd(wanted)) return `End ${quantifier === 'forall' ? 'otherwise than' : 'as'} the condition asks, with ${wanted.length} values.`;
   const said = wanted ? wantedSentence(wanted) : proposition, ofLoads = wanted && quantifier !== 'forall' && loadsSentence(wanted, programs);
   if (ofLoads) return `Make ${ofLoads}.`;
   return quantifier === 'forall' ? `End otherwise than with ${said}.` : `End with ${said}.`;
@@ -113,7 +122,7 @@ function afterTry(history, count, met, quantifier) {
   if (!met) return ` ${missedSentence(history, count, quantifier)}${isRefuted() ? '' : ' Go back, or make other choices.'}`;
   const claim = quantifier === 'exists' ? '' : 'So the claim of the test is wrong.';
   const passes = passesOf(history.order.slice(0, history.momentAfter(count).rows), '').filter(sentence => sentence !== '');
-  const more = passes.splice(MOST_PASSES).length, rest = more > 0 ? `And ${more} more.` : '';
+  const more = passes.splice(FEW_PASSES).length, rest = more > 0 ? `And ${more} more.` : '';
   const isOfAnswer = isAnswersRun(), done = isOfAnswer ? '' : doneWord(history, count);
   const then = isOfAnswer && history.steps.length <= FEW_CHOICES ? ' Now make it yourself.' : '';
   return [done, claim, ...passes, rest].filter(words => words !== '').map(words => ` ${words}`).join('') + then;

@@ -27,10 +27,14 @@ const SOURCES = { buffer: 'its own store buffer', cache: 'its own cache', bus: '
 
 const sourceName = supplied => SOURCES[supplied] ?? `${supplied}'s cache`;
 
-/** Where the trace tells that the word is found which a step reads or asks for: its name there, the reader, and the locations. */
-function supplyOf({ supplied, choice, entries, after }) {
-  if (!supplied) return null;
-  const reader = coreOfChoice(choice), owners = { buffer: reader, cache: reader, bus: null, memory: null };
+/** The copy, newer than memory, that a miss for writing took from another core. */
+const takenCopy = step => (step.access === 'miss' ? stateChanges(step).find(({ core, before, after }) => core !== coreOfChoice(step.choice) && 'MO'.includes(before) && after === 'I') : null);
+
+/** Where the trace tells that the word is found which a step reads or asks for: its name there, the reader, and the locations; or which line it took. */
+function supplyOf(step) {
+  const { supplied, choice, entries, after } = step, reader = coreOfChoice(choice), taken = takenCopy(step);
+  if (!supplied) return taken ? { from: `P${taken.core}`, reader, owner: taken.core, locations: taken.line.split('+'), isTaken: true } : null;
+  const owners = { buffer: reader, cache: reader, bus: null, memory: null };
   const locations = entries.length > 0 ? [entryOf(entries[0]).location] : after.bus.line.split('+');
   return { from: supplied, reader, owner: supplied in owners ? owners[supplied] : Number(supplied.slice(1)), locations };
 }
@@ -117,9 +121,10 @@ function stepSentences(step, before, programs, isPlain = false) {
 /** What a step did to the copies of other cores, all of the one line that went on the bus: it took them, or one keeps it as its owner. */
 function copySentences(step) {
   const others = stateChanges(step).filter(({ core }) => core !== coreOfChoice(step.choice)), taken = others.filter(({ before, after }) => before !== 'I' && after === 'I');
-  const kept = others.filter(({ before, after }) => before === 'M' && after === 'O').map(({ core }) => `P${core} keeps the line as its owner; memory keeps the old word.`);
+  const kept = others.filter(({ before, after }) => before === 'M' && after === 'O').map(({ core, line }) => `P${core} keeps the line as its owner; memory keeps the old word${line.includes('+') ? 's' : ''}.`);
   if (taken.length === 0) return kept;
-  return [`${listed(taken.map(({ core }) => `P${core}'s`))} ${taken.length === 1 ? 'copy' : 'copies'} of ${lineSaid(taken[0].line)} became invalid.`];
+  const sent = takenCopy(step);
+  return [...(sent ? [`P${sent.core} sent its copy.`] : []), `${listed(taken.map(({ core }) => `P${core}'s`))} ${taken.length === 1 ? 'copy' : 'copies'} of ${lineSaid(taken[0].line)} became invalid.`];
 }
 
 /** At the end of a run whose cores took a line from each other for words of their own: how many accesses missed. */

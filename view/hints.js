@@ -1,6 +1,6 @@
 'use strict';
 
-// Hints in the page's own words: those of the program tell how a command line is written, and here are fields and buttons.
+// Hints in the page's own words: here are fields and buttons, and no command line.
 
 const IN_WORDS_OF_THE_PAGE = [
   [/no test: give one on standard input, as in: tso [a-z]+ < FILE/, 'there is no test yet: write one, or take one of the examples'],
@@ -8,12 +8,16 @@ const IN_WORDS_OF_THE_PAGE = [
   ['no order: give one after a line ====, as run prints it; --help says more', 'there is no order yet: write one, as the answer of run has it as text'],
   ['put a line ==== between the test and the choices', 'choices stand in their own field'],
   ['put a line ==== between the test and the order', 'an order stands in its own field'],
-  ['tso why needs no states', 'why needs no states'],
+  ['tso why needs no states', '“Why” needs no states'],
   ['name fewer atoms', 'name fewer registers and locations'],
   ['the proposition', 'the condition'],
   ['lower --depth', 'lower --depth (then it is less than TSO)'],
+  [/no ; ends (?:this row .*|(the row .*): a row.*)/, '$1 needs a ; at its end'],
+  [/; leave out the ; behind it.*/, ', and leave out the ; behind it'],
+  [/(\w+) is no instruction: write (exists|forall)/, '“$1” isn\'t read: write $2'],
+  [/this is a disassembly, .*/, 'this is a disassembly: paste what gcc -S writes instead, which has the name of each location'],
   [/(C is a language|this is C): .*/, 'this is C, and here are x86 instructions: “From C and C++” below says which'],
-  ['leave out one that keeps only loads or only stores in order', 'a weaker one isn\'t needed (leave out LFENCE and SFENCE)'],
+  [/(; stands behind )?\bfence( isn't read|:).*/i, 'fence: write MFENCE'],
   ['the tool import', 'the program tools/import of a checkout'],
   [/: an input has only one, so.*/, ': one test at a time'],
   [' after ====: ', ' of it: '],
@@ -49,7 +53,7 @@ function unwrittenSaid(test) {
   return [...words].map(([name, { core, word }]) => `the condition names ${name}, which no instruction of P${core} writes: it stays ${word}.`);
 }
 
-/** What is said of a condition that names what nothing writes. An answer in JSON has no hint of locations, so a sweep of one short run is asked. */
+/** What is said of a condition that names what nothing writes: the hint of a short sweep. */
 function noticeOf(test) {
   if (notice.test === test) return notice.said;
   const found = /the condition names [^]*stays \d+/.exec(asked({ command: 'sweep', seeds: 1 }, test).hint);
@@ -60,8 +64,12 @@ function noticeOf(test) {
   return notice.said;
 }
 
+/** A hint of a limit, a sentence a line; of many choices the first twelve. */
+const linesOfLimit = said => said.replace(/((?: \d[sd]){12}) \d[sd][ \dsd]*/, '$1 …').replace(/\d{5,}/g, each => grouped(Number(each))).replace(/^hint: /gm, '').split(/; |\n/).map(each => `${each[0].toUpperCase()}${each.slice(1)}.`.replace('….', '…')).join('\n');
+
 /** A hint of the module, in words of the page; an option of the command line goes by its field's name. */
 function pageHint(hint) {
   const said = IN_WORDS_OF_THE_PAGE.reduce((said, [theirs, ours]) => said.replace(theirs, ours), hint);
-  return said.replace(/--([a-z]+)/g, (word, name) => (SET_NAMES.includes(name) ? `“${labelText(name)}”` : word)).trim();
+  const named = said.replace(/--([a-z]+)/g, (word, name) => (SET_NAMES.includes(name) ? `“${labelText(name)}”` : word)).trim();
+  return /more than \d+ (?:states|cases)/.test(named) ? linesOfLimit(named) : named;
 }

@@ -31,5 +31,5 @@ function leastOf(history) {
 /** How many choices a run needs, in a sentence; empty where that isn't known. */
 function leastSentence(history) {
   const count = leastOf(history);
-  return count === null ? '' : ` A run needs at least ${count} ${count === 1 ? 'choice' : 'choices'}.`;
+  return count === null ? '' : ` A whole run needs at least ${count} ${count === 1 ? 'choice' : 'choices'}.`;
 }

@@ -90,7 +90,17 @@ function backward() {
   if (lesson.told !== null) return clickLesson(false);
   if (drive.isOn && drive.count > 0) return moveDriven('back');
   if (scrollY > 0 && !drive.isOn) return scrollBy(0, -SCROLLED * innerHeight);
-  return drive.isOn || isOfEntry() ? openListed(placeBefore(), true) : backToRun();
+  return drive.isOn || isOfEntry() ? openBefore() : backToRun();
+}
+
+/** Goes back to what was seen last of the test before: of a run with a reason after it, its last arrow. */
+function openBefore() {
+  const at = placeBefore();
+  if (!toGoThrough()[at]) return;
+  openListed(at, true);
+  if (!drive.isOn) return;
+  playlist.isFromBehind = isWhyNext();
+  if (isWhyNext()) askWhy();
 }
 
 function saidOfNext({ name }) {
@@ -109,6 +119,7 @@ const showFoot = () => isLecture() && playlist.where !== footSaid() && drawBar()
 const putLed = isLed => document.documentElement.classList.toggle('led', isLed);
 
 function click(isOn) {
+  if (document.activeElement.matches('.core-buttons button')) document.activeElement.blur(); // its ring is no part of the machine
   if (isOn) onward()?.[1]();
   else backward();
   showFoot();
@@ -147,7 +158,6 @@ document.addEventListener('keydown', event => {
 });
 for (const kind of ['scroll', 'click']) document.addEventListener(kind, showFoot, { passive: true });
 for (const kind of ['keydown', 'wheel', 'pointerdown', 'pointermove']) document.addEventListener(kind, () => putLed(kind === 'keydown' && isLecture()), { passive: true });
-document.addEventListener('pointerdown', ({ target, clientX: x, clientY: y, pointerType }) => target.matches('html') && pointerType === 'mouse' && document.elementFromPoint(x, y)?.click()); // it came while they led
 document.addEventListener('fullscreenchange', () => {
   if (!document.fullscreenElement && isLecture()) putLecture(false);
 });

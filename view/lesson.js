@@ -374,7 +374,7 @@ function drawLessons() {
   byId('first-lesson').dataset.lesson = name;
   byId('first-lesson').textContent = title;
   byId('more-lessons').hidden = !second;
-  putText(byId('more-lessons'), `Next lesson: ${second?.title.split(':')[0]} (${lessons.length} in all)`);
+  putText(byId('more-lessons'), `Then: ${second?.title.split(':')[0]} (${lessons.length} lessons in all)`);
   const link = (of, at, text, ...parts) => html('li', {}, html('button', { type: 'button', 'data-lesson': of, 'data-step': at, class: 'quiet' }, text), html('span', {}), ...parts);
   byId('lessons').replaceChildren(...lessons.map(each => {
     const parts = each.steps.flatMap(({ title: part }, at) => (part === undefined ? [] : [link(each.name, at, part)]));

@@ -19,7 +19,7 @@ const LESSONS = [{
     { do: '1d', say: 'And P1\'s store.', look: 'picture', then: 'The memory order has both loads above both stores, although each program has its store first.' },
     { show: 'outcomes', say: 'So yes, both loads can read 0. What else can come out? Press “Find all outcomes”: proved code tries every order of steps and drains.' },
     { say: 'There are four. The one marked “TSO alone” needs store buffers. Without them each store is in memory at once. That is sequential consistency (SC): at least one load reads 1.' },
-    { say: 'What you can say now\n• Both loads can read 0: each store waits in its core\'s buffer, and the load passes it.\n• TSO, the memory order of x86 processors, lets nothing else pass.\n• Without store buffers (SC) it can\'t be.', also: { to: 'fences', says: 'On to fences' } },
+    { say: 'What you can say now\n• Both loads can read 0: each store waits in its core\'s buffer, and the load passes it.\n• TSO, the memory order of x86 processors, lets a later load pass a store, and nothing else.\n• Without store buffers (SC) it can\'t be.', also: { to: 'fences', says: 'On to fences' } },
     { test: 'X86 OWN\n{ x=0; }\n P0          | P1          ;\n MOV [x],$1  | MOV EAX,[x] ;\n MOV [x],$2  |             ;\n MOV EAX,[x] |             ;\n', title: 'What does a core see of its own stores?', say: 'Another test: P0 stores 1 to x, then 2, and then loads x. What if these stores still wait in its own buffer?' },
     { do: '0s', say: 'P0\'s first store.', then: 'x=1 waits in P0\'s buffer. Memory still has x=0.' },
     { do: '0s', say: 'And its second.', then: 'x=2 waits behind x=1.' },

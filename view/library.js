@@ -58,7 +58,7 @@ function libraryItem(entry) {
   return html('li', {}, button, entry.said === '' ? '' : ` ${entry.said}`);
 }
 
-/** Lists the texts in which each word of the search begins a word, by family; those to begin with on top, orders folded. */
+/** Lists the texts that are searched for, by family; those to begin with on top, orders folded. */
 function showLibrary() {
   const words = wordsOf(byId('search').value), texts = textsHere();
   const found = texts.filter(entry => words.every(word => entry.found.some(each => each.startsWith(word))));

@@ -1,7 +1,6 @@
 'use strict';
 
-// How much text the page takes. A browser lays out each line of a field, so a text of very many lines would hold the page up: it is
-// refused before it comes into a field.
+// How much text the page takes. A browser lays out each line of a field, so very many lines are refused beforehand.
 
 /** The bytes of an input are the program's own limit; the lines are the page's. No test or order has nearly as many. */
 const MOST_TEXT = { bytes: 1048576, lines: 5000 };

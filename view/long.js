@@ -115,7 +115,8 @@ function showOutcomes(answer, beside, test) {
   const fine = sequential ? [html('span', { class: 'fine' }, ` ${besideSentence(outcomes, sequential)}`)] : [];
   const said = html('p', { role: 'status' }, ...judgedOutcomes(outcomes, test), verdictOf(observationSentence(outcomes, test)), ...fine);
   const sheetOfAll = statesSheet(outcomes, sequential, truthsOf(outcomes, test));
-  byId('states').replaceChildren(answerTitle('All outcomes'), said, ...sheetOfAll, ...outcomesInTerms(outcomes, sequential));
+  const { proposition } = readTest(test);
+  byId('states').replaceChildren(answerTitle('All outcomes'), said, ...termsPart(proposition && wantedWords(proposition)), ...sheetOfAll, ...outcomesInTerms(outcomes, sequential));
 }
 
 /** Notes whether all outcomes of TSO say that the task can't be done, and judges what the reader of an exercise had said. */

@@ -8,7 +8,7 @@ const CACHED = { most: 4 }; // rows of a cache that have room while they aren't 
 const marked = (name, isChanged) => (isChanged ? { class: `${name} changed` } : { class: name });
 
 /** Marks, where a word was read that stands there, who read it. */
-const sourced = (attributes, supply) => (supply ? { ...attributes, class: `${attributes.class} source`, 'data-reader': `→P${supply.reader}`, title: `P${supply.reader} reads from here.` } : attributes);
+const sourced = (attributes, supply) => (supply ? { ...attributes, class: `${attributes.class} source`, 'data-reader': `→P${supply.reader}`, title: `P${supply.reader} ${supply.isTaken ? 'took the line' : 'reads'} from here.` } : attributes);
 const suppliesLine = (supply, line) => supply && line.split('+').some(location => supply.locations.includes(location)) && supply;
 const hidden = text => html('span', { class: 'unshown' }, text);
 

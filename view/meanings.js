@@ -42,6 +42,7 @@ const MEANINGS = {
   GetS: 'GetS asks on the bus for a line to read.',
   GetM: 'GetM asks on the bus for a line to write: all other copies become invalid.',
   flush: 'A flush: this core sent its copy to memory, since another core reads the line.',
+  forwards: 'Loads that read a store which waited in the buffer of their own core.',
   'write-back': 'A write-back: the line had to leave the cache. Memory had older words, so the words went to memory.',
 };
 
@@ -84,7 +85,7 @@ function isAtRest({ type, screenX: x, screenY: y }) {
   return rests;
 }
 
-/** Shows below a word what it means, at the pointer or the focus. What changes under a pointer that rests does nothing. */
+/** Shows below a word, above one among buttons, what it means, at the pointer or the focus. What changes under a pointer that rests does nothing. */
 function showMeaning(event) {
   const word = event.target.closest?.('[data-means]'), box = byId('meaning');
   if (isAtRest(event) || (!word && box.dataset.by !== event.type)) return;
@@ -92,9 +93,9 @@ function showMeaning(event) {
   box.dataset.by = event.type;
   if (!word) return;
   box.textContent = MEANINGS[word.dataset.means];
-  const { left, bottom } = word.getBoundingClientRect();
+  const { left, top, bottom } = word.getBoundingClientRect(), above = top - box.offsetHeight - 4;
   box.style.left = `${Math.max(4, Math.min(left, document.documentElement.clientWidth - box.offsetWidth - 4))}px`;
-  box.style.top = `${bottom + 4}px`;
+  box.style.top = `${above >= 0 && word.closest('#driving, #saves') ? above : bottom + 4}px`;
 }
 
 for (const kind of ['pointerover', 'focusin']) document.addEventListener(kind, showMeaning);

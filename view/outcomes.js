@@ -23,12 +23,12 @@ function outcomesInTerms({ observation, verdict, depth }, sequential) {
   return [inTerms(`Observation: ${word} (true in ${yes}, false in ${no}).${verdictWords(verdict)}${other}${depth === 32 ? ' A store buffer has room for 32 stores here, whatever yours has.' : ''}`)];
 }
 
-/** How many of the states are as the condition says. Where it asks whether any is, the sentence begins with yes or no. */
+/** How many of the states are as the condition says. The sentence begins with the verdict on the condition. */
 function countSentence(all, yes, where, test) {
-  const { proposition } = readTest(test), wanted = proposition && wantedWords(proposition), said = wanted ? wantedSentence(wanted) : 'what the condition says';
-  const isAsked = quantifierOf(test) !== 'forall', few = yes === 0 ? 'none' : String(yes);
-  const count = `${few} of ${all} ${all === 1 ? 'outcome' : 'outcomes'} ${where} ${yes > 1 ? 'have' : 'has'} ${said}.`;
-  return isAsked ? `${yes > 0 ? 'Yes' : 'No'}: ${count}` : count[0].toUpperCase() + count.slice(1);
+  const { proposition } = readTest(test), wanted = proposition && wantedWords(proposition), said = wanted && !isLongEnd(wanted) ? wantedSentence(wanted) : 'what the condition says';
+  const quantifier = quantifierOf(test), isForall = quantifier === 'forall', few = isForall && yes === all && all > 1 ? `all ${all}` : `${isForall && 0 < yes && yes < all ? 'only ' : ''}${yes || 'none'} of ${all}`;
+  const count = `${few} ${all === 1 ? 'outcome' : 'outcomes'} ${where} ${yes > 1 ? 'have' : 'has'} ${said}.`;
+  return `${quantifier === 'exists' ? (yes > 0 ? 'Yes' : 'No') : claimWords(yes === (isForall ? all : 0))}: ${count}`;
 }
 
 /** Of a search that met its limit: the final states that it had met, and a verdict where one of them decides it. A module that is older

@@ -104,12 +104,22 @@ function scrollsBy(key, element) {
 }
 
 const ASK_KEYS = { o: 'outcomes', w: 'why' };
+const canEdit = () => bench.tso !== null && lesson.told === null && !isLecture() && byId('letter-keys').checked;
+
+/** Opens the test, to be written on. */
+function editTest(event) {
+  event.preventDefault();
+  byId('test-part').open = true;
+  byId('test').focus();
+}
+
 const canAsk = () => bench.tso !== null && lesson.told === null && !isUnanswered() && byId('test').value.trim() !== '';
 
 document.addEventListener('keydown', event => {
   if (event.ctrlKey && event.key === 'Enter' && canAsk()) ask(askedNext());
   const isForOthers = event.target.matches('textarea, select, input:not([type=checkbox])') || event.ctrlKey || event.altKey || event.metaKey || (event.shiftKey && event.key !== '+');
   if (!isForOthers && ASK_KEYS[event.key] && canAsk() && byId('letter-keys').checked) return ask(ASK_KEYS[event.key]);
+  if (!isForOthers && event.key === 'e' && canEdit()) return editTest(event);
   if (isForOthers || !(shown.run || drive.isOn)) return;
   if (KEYS[event.key] && isAsked() && answerByKey(event.key)) return event.preventDefault();
   if (KEYS[event.key] && scrollsBy(event.key, event.target)) return;
@@ -185,7 +195,9 @@ byId('write-so').addEventListener('click', writeRepairs);
 byId('search').addEventListener('input', showLibrary);
 byId('comparison').addEventListener('toggle', () => bench.tso && compareNow());
 for (const scrolled of [window, byId('frame')]) scrolled.addEventListener('scroll', () => (shown.run || drive.isOn) && placeNames(), { passive: true });
+byId('test-part').addEventListener('toggle', placeAll);
 window.addEventListener('resize', () => {
+  placeAll();
   if ((shown.run || drive.isOn) && !matchMedia('print').matches) redraw();
 });
 window.addEventListener('hashchange', showAddress);
@@ -238,6 +250,7 @@ function beginAtFirst() {
 /** Shows what the page is about, its lessons, and what a saved page brings along. It is folded where somebody was led to a test. */
 function beginTeaching(told) {
   byId('about').hidden = false;
+  byId('lessons-part').hidden = byId('keys').hidden = bench.tracing === null;
   byId('about').open = told === '' || (told === savedAddress() && !/choices=|exercise=/.test(told));
   drawLessons();
   takeSavedTaught();

@@ -6,6 +6,7 @@
  * behind; and the addresses of entries left changed. */
 const playlist = { at: -1, said: null, where: '', isFromBehind: false, left: new WeakMap() };
 
+const UNSAVED = ' Closing this tab loses the lecture: save it as a page.';
 const LIST_END = 'The end of the lecture';
 const MOST_NAME = 80; // characters of an entry's name
 const MOST_LISTED = 400000; // characters of a list that the browser keeps
@@ -40,7 +41,7 @@ function addToList(before = taught.list.length) {
   playlist.at = isThere ? at : before;
   drawList();
   const steps = isUnstepped() ? ' No choices to step.' : '';
-  sayListed(`${isThere ? 'It is there already, as' : 'Added as'} ${playlist.at + 1}: ${shortName(one)}.${steps} Closing this tab loses the lecture: save it as a page.`);
+  sayListed(`${isThere ? 'It is there already, as' : 'Added as'} ${playlist.at + 1}: ${shortName(one)}.${steps}${taught.list === playlist.saved ? '' : UNSAVED}`);
   byId('list-part').scrollIntoView({ block: 'nearest' });
   if (currentCommand() === 'why' && !isListed('run')) document.querySelector('#way-back .listed').append(' ', listButton({ 'data-add-run': '', class: 'quiet' }, 'Add the run too'));
 }
@@ -142,7 +143,7 @@ function openListed(at, isAtEnd = false) {
 
 /** Of a cycle to which one came from the next test: shows its last arrow. */
 function showFromBehind() {
-  if (playlist.isFromBehind && isOfEntry()) sheet.cycle?.move('all');
+  if (playlist.isFromBehind) sheet.cycle?.move('all');
   playlist.isFromBehind = false;
   showFoot();
 }

@@ -39,10 +39,26 @@ function falseSentence(places) {
   return `Then ${places.length === 0 ? 'whatever is left' : listed(ends)}, which isn't what is asked for.`;
 }
 
+const EVENT_FORM = 'P\\d:\\d+ (?:LR|LW|R|W) \\w+(?:=\\d+)?';
+
+/** An event in words. */
+function bareWords(text) {
+  const { core, kind, location, value } = eventOf(text), locked = kind[0] === 'L' ? 'locked ' : '';
+  const said = kind === 'F' ? 'fence' : kind.endsWith('R') ? `load of ${location}` : value === undefined ? `store to ${location}` : `store ${location}=${value}`;
+  return `P${core}'s ${locked}${said}`;
+}
+
+/** The same, with its code name where another one that the sheet tells of has these words too. */
+function eventWords(text) {
+  sheet.events ??= [...new Set(JSON.stringify(sheet.told).match(new RegExp(EVENT_FORM, 'g')))].map(each => [nameOfEvent(each), bareWords(each)]);
+  const words = bareWords(text), isOne = sheet.events.every(([name, other]) => other !== words || name === nameOfEvent(text));
+  return isOne ? words : `${words} (${text.split(' ')[0]})`;
+}
+
 /** What closes a case says. */
 const CLOSING_SENTENCES = {
-  cycle: ({ cycle }) => `It can't be: ${cycle[0].from} would be before itself in memory order.`,
-  uniproc: ({ cycle }) => `It can't be: among the accesses to one location, ${cycle[0].from} would be before itself.`,
+  cycle: ({ cycle }) => `It can't be: ${eventWords(cycle[0].from)} would be before itself in memory order.`,
+  uniproc: ({ cycle }) => `It can't be: among the accesses to one location, ${eventWords(cycle[0].from)} would be before itself.`,
   between: ({ between, read }) => `It can't be: ${between} would come between the two parts of the locked instruction ${read.split(' ')[0]}.`,
   false: ({ places }) => falseSentence(Object.entries(places)),
   none: step => (Object.hasOwn(NO_ANSWERS, step.question) ? `It can't be: ${NO_ANSWERS[step.question](step.of)}.` : plainStep(step)),
@@ -62,13 +78,12 @@ const STEP_SENTENCES = {
   case: step => (step.answers ? `${caseWords(step.answers)}${step.closing ? `: ${lowered(closingSentence(step.closing))}` : ''}` : step.read ? `If ${step.read} reads ${eitherOf(step.from.map(sourceText))}` : `If ${step.first} reaches memory before ${step.second}`),
   so: step => (step.answers ? `So ${answersWords(step.answers)}${step.closing ? `: ${lowered(closingSentence(step.closing))}` : '.'}` : step.read ? `So ${step.read} reads ${eitherOf(step.from.map(sourceText))}.` : `So ${step.first} reaches memory before ${step.second}.`),
   endcases: () => 'No other case is left.',
-  given: ({ facts }) => `Asked for: ${listed(facts.map(factWords))}.`,
+  given: ({ facts }) => `Asked for: ${listed(facts.map(factWords)).replace(new RegExp(EVENT_FORM, 'g'), eventWords)}.`,
   never: ({ lemma, facts }) => `Lemma ${lemma}: it can't be that ${listed(facts.map(factWords))}.`,
   leaf: ({ closing }) => closingSentence(closing),
   ...CLOSING_SENTENCES,
 };
 
-const EVENT_FORM = 'P\\d:\\d+ (?:LR|LW|R|W) \\w+(?:=\\d+)?';
 const factForm = form => new RegExp(`^${form.replaceAll('EVENT', EVENT_FORM)}$`);
 
 /** What a fact says, by its form; any other one is a proposition. */
@@ -136,10 +151,10 @@ const cyclesOf = steps => steps.map((step, at) => ({ cycle: closingOf(step).cycl
 /** A tree as nested lists, of which each case folds. A cycle has a button that draws it. */
 function treeList(nodes, steps, isOpen) {
   return html('ul', { class: 'cases' }, ...nodes.map(({ step, parts }) => {
-    if (parts) return html('li', {}, html('details', isOpen ? { open: '' } : {}, html('summary', {}, stepSentence(step)), treeList(parts, steps, isOpen)));
+    if (parts) return html('li', {}, html('details', isOpen ? { open: '' } : {}, html('summary', {}, ...unbroken(stepSentence(step))), treeList(parts, steps, isOpen)));
     const at = steps.indexOf(step);
     const draw = closingOf(step).cycle ? [' ', html('button', { type: 'button', 'data-cycle': at, 'aria-pressed': 'false' }, 'Draw it')] : [];
-    return html('li', { class: `step-${step.step}`, 'data-step': at }, stepSentence(step), ...draw);
+    return html('li', { class: `step-${step.step}`, 'data-step': at }, ...unbroken(stepSentence(step)), ...draw);
   }));
 }
 
@@ -195,14 +210,15 @@ function laterEdges({ from, relation, to }, edges) {
   return next ? [{ from, relation, to: next.to }, ...laterEdges({ from, relation, to: next.to }, edges)] : [];
 }
 
+const FAR = 100; // more than a cycle's edges
 const NO_STEP = ({ edge, from, to }) => from[1] === to[1] && (['rf', 'co', 'fr'].includes(edge.relation) || (edge.relation === 'po' && /W$/.test(from) && /R$/.test(to)));
 
-/** A cycle with as many as can be of the loads at the places that are `wanted`, a shortest one of these; null where none has any. It comes to each
- * core once, first to the one with the least number. */
-function cycleThrough(wanted, leaving) {
+/** A cycle with as many as can be of the loads at the places that are `wanted`, a shortest one of these (`isShort`: a shortest one of all, with any); null
+ * where none has any. It comes to each core once, first to the one with the least number. */
+function cycleThrough(wanted, leaving, isShort) {
   const isAsked = name => Number(/R$/.test(name) && wanted.includes(name.split(' ')[0])), coreOfName = name => Number(name[1]);
-  const isBetter = (one, other) => other === null || one.asked > other.asked || (one.asked === other.asked && one.edges.length < other.edges.length);
-  let best = { asked: 0, edges: null };
+  const rank = ({ asked, edges }) => (isShort ? asked - FAR * edges.length : FAR * asked - edges.length), isBetter = (one, other) => other === null || rank(one) > rank(other);
+  let best = null;
   for (const start of leaving.keys()) {
     const known = new Map();
     const wayFrom = (name, cores, isMoved) => {
@@ -222,7 +238,7 @@ function cycleThrough(wanted, leaving) {
     const way = wayFrom(start, 0, false);
     if (way !== null && way.asked > 0 && isBetter(way, best)) best = way;
   }
-  return best.edges;
+  return best?.edges ?? null;
 }
 
 /** A cycle of an execution's edges and program order, or an empty one: with what is `wanted`, as much as can be, else a shortest one. It begins
@@ -233,7 +249,7 @@ function forbiddenCycle(edges, programs, loads, wanted) {
   for (const step of steps) leaving.set(step.from, [...(leaving.get(step.from) ?? []), step]);
   const shortest = () => [...leaving.keys()].map(event => wayBack(event, leaving)).filter(way => way !== null).sort((one, other) => one.length - other.length)[0];
   const far = new Map([...leaving].map(([name, own]) => [name, [...own, ...own.flatMap(({ edge }) => laterEdges(edge, edges)).map(stepOf)]]));
-  const cycle = cycleThrough(wanted, far) ?? shortest() ?? [];
+  const cycle = (edges.length > MANY_EDGES && cycleThrough(wanted, far, true)) || cycleThrough(wanted, far) || (shortest() ?? []);
   const isSame = (entry, text) => nameOfEvent(entry.text) === nameOfEvent(text);
   const isPassed = ({ from, to }) => loads.some(load => isSame(load, to) && load.passed.some(store => isSame(store, from)));
   const unkept = cycle.filter(({ relation }) => relation === 'unkept');

@@ -23,8 +23,8 @@ const RELATIONS = {
     says: (from, to) => `${from} reaches memory before ${to}, a write to the same location.`,
   },
   fr: {
-    means: 'From read: a read is before the writes that come after the one whose value it returned.',
-    says: (from, to) => `${from} reads a value that was there before ${to} wrote its own.`,
+    means: 'From read: it read the older value, so it came before the new one was written.',
+    says: (from, to) => `${from} read the older value, so it came before ${to} wrote the new one.`,
   },
   mfence: {
     means: 'A fence: what is before it in the program is before what comes after it.',
@@ -44,6 +44,9 @@ function eventOf(text) {
   const [, core, place, fence, kind = fence, location, value] = EVENT.exec(text);
   return { text, core: Number(core), place: Number(place), kind, location, value };
 }
+
+/** A sentence in parts, so that no name of an event breaks at the end of a line. */
+const unbroken = text => text.split(/(P\d:\d+ L?[RW] \w+(?:=\d+)?)/).map((part, at) => (at % 2 === 0 ? part : html('span', { class: 'unbroken' }, part)));
 
 /** What a module that is newer than the page may name. */
 const UNKNOWN_RELATION = { means: 'A relation that this page doesn\'t know.', says: (from, to) => `${from} comes before ${to}.` };

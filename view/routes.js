@@ -106,7 +106,7 @@ function edgeWays(layout, edges) {
 
 // The letters of edges: a chip on each way, where it covers no box, no word, no other chip and if possible no other way.
 
-const overlap = (one, other) => one.x < other.x + other.width && other.x < one.x + one.width && one.y < other.y + other.height && other.y < one.y + one.height;
+const overlap = (one, other, room = 0) => one.x - room < other.x + other.width && other.x - room < one.x + one.width && one.y - room < other.y + other.height && other.y - room < one.y + one.height;
 const holds = (box, [x, y]) => x > box.x && x < box.x + box.width && y > box.y && y < box.y + box.height;
 
 /** From where to where a chip around a point may reach: of narrow lanes through the gutter in which it lies, else through the picture. */
@@ -117,7 +117,8 @@ function roomOfChip({ isNarrow, margin, lane, side, width }, x) {
 
 /** The rectangle of a chip of some letters around a point. */
 function chipAt(layout, [x, y], letters) {
-  const width = letters * ROUTES.letter + ROUTES.around, [from, to] = roomOfChip(layout, x), centre = Math.min(Math.max(x, from + width / 2 + 2), to - width / 2 - 2);
+  const width = letters * ROUTES.letter + ROUTES.around, [from, to] = roomOfChip(layout, x), near = Math.min(width / 2 + 5, (to - from) / 2);
+  const centre = Math.min(Math.max(x, from + near), to - near);
   return { x: centre - width / 2, y: y - ROUTES.chip / 2, width, height: ROUTES.chip };
 }
 
@@ -136,7 +137,8 @@ function chipsOf(layout, edges, ways) {
     const isWithin = eventOf(from).core === eventOf(to).core, others = ways.filter((_, other) => other !== at).flatMap(({ points }) => points);
     const cost = chip => 100 * layout.words.filter(part => overlap(chip, part)).length + 400 * [...layout.boxes.values()].filter(part => overlap(chip, part)).length + 50 * chips.filter(other => overlap(chip, other)).length + others.filter(point => holds(chip, point)).length;
     const found = chipPoints(ways[at].points, isWithin).map(point => chipAt(layout, point, lettersAt(edges, at, layout.isNarrow).length)).map(chip => ({ chip, cost: cost(chip) }));
-    const { chip, cost: least } = found.reduce((best, each) => (each.cost < best.cost ? each : best));
+    const rank = each => 9 * each.cost + [...layout.boxes.values(), ...chips].some(part => overlap(each.chip, part, 4));
+    const { chip, cost: least } = found.reduce((best, each) => (rank(each) < rank(best) ? each : best));
     covered += least;
     chips.push(chip);
   });

@@ -40,6 +40,7 @@ function withWholeCycle(act) {
   const { cycle } = sheet, shownNow = cycle?.shown;
   if (!cycle?.element.isConnected) return act();
   cycle.show(cycle.last);
+  cycle.point(document.body);
   cycle.picture.querySelectorAll('.now').forEach(edge => edge.classList.remove('now'));
   act();
   return cycle.show(shownNow);

@@ -16,7 +16,7 @@ const SETTINGS = {
 const CHOSEN = ['protocol', 'bus', 'model'];
 /** What each command answers. */
 const ANSWERS_OF = {
-  run: 'One run, made by the choices below.', outcomes: 'All outcomes, with choices that lead to each.',
+  run: 'One run, made by your choices.', outcomes: 'All outcomes, with choices that lead to each.',
   sweep: 'How often each outcome comes, in the runs of many seeds.', counts: 'What the caches did, in the runs of many seeds.',
   check: 'Whether an order is one of TSO.', witness: 'Choices that lead to an order.', tables: 'The table of a protocol.',
   why: 'Why the end that is asked for can\'t be, or how it can.',

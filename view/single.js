@@ -62,6 +62,8 @@ async function saveWhole(name, makePage, more) {
 /** The page with what is shown; with a list of tests it is named by these. */
 function savePage() {
   const tests = taught.list.length;
+  playlist.saved = taught.list;
+  for (const place of document.querySelectorAll('.listed')) putText(place, place.textContent.replace(UNSAVED, ''));
   return saveWhole(tests > 1 ? `lecture-of-${tests}-entries.html` : fileName(pictureName(), '.html'), () => wholePage(addressNow()));
 }
 

@@ -15,6 +15,7 @@ function hasWords(row, titles, words) {
 }
 
 const FEW_ROWS = 50; // that a long table shows at first
+const MOST_NAMED = 4; // registers with their names in C
 const FEW_COLUMNS = 6; // places in a table that has the programs beside it
 
 /** Shows the rows that the sheet's filter finds, of many the first ones, and says how many these are. */
@@ -68,10 +69,10 @@ function keySaid(names) {
 function statesSheet(outcomes, sequential, truths) {
   const table = outcomesTable(outcomes, sequential, truths);
   for (const head of [...table.querySelectorAll('thead th')].slice(0, -1)) head.replaceChildren(html('button', { type: 'button', class: 'sorts' }, head.textContent));
-  const { programs: told } = readTest(inputOf('outcomes')), names = inC(told)?.names ?? [];
+  const { programs: told } = readTest(inputOf('outcomes')), { names = [], lines = [] } = inC(told) ?? {}, isFew = names.flatMap(Object.keys).length <= MOST_NAMED;
   for (const head of table.querySelectorAll('thead th')) {
-    const [core, register] = head.textContent.split(':'), named = names[core]?.[register];
-    if (named) head.dataset.c = ` (${named})`;
+    const [core, register] = head.textContent.split(':'), named = isFew && names[core]?.[register];
+    if (named) for (const part of [head, ...table.querySelectorAll(`td[data-name="${head.textContent}"]`)]) part.dataset.c = named;
   }
   for (const button of table.querySelectorAll('thead .sorts')) if (Object.hasOwn(MEANINGS, button.textContent)) button.dataset.means = button.textContent;
   const filter = html('input', { class: 'filter', type: 'search', autocomplete: 'off', placeholder: '0:EAX=1' });
@@ -82,6 +83,7 @@ function statesSheet(outcomes, sequential, truths) {
   const words = sequential ? [html('p', { class: 'small faint alone-said' }, `${isAlone ? '“TSO alone”: it needs store buffers. ' : ''}SC is sequential consistency: no store buffers.`)] : [];
   const key = html('p', { class: 'small faint key' }, keySaid(Object.keys(outcomes.states[0].values)));
   const programs = html('p', { class: 'programs' }, ...programLines(told));
+  programs.querySelectorAll('code').forEach((code, at) => lines.length > 0 && setAll(code, { 'data-c': lines.flat()[at] }));
   const isBroad = Object.keys(outcomes.states[0].values).length > FEW_COLUMNS || programs.childElementCount > MANY_CORES;
   const sheet = html('div', { class: isBroad ? 'states-sheet broad' : 'states-sheet' }, programs,
     html('div', { class: 'states-told' }, ...(outcomes.states.length > 1 ? [tools] : []), table, more), html('div', { class: 'states-notes' }, ...words, key, ...depthNote(outcomes)));

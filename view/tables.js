@@ -14,7 +14,7 @@ function numbersTable(caption, titles, rows) {
 
 /** What a run left: the registers of these names, memory, and what the caches counted. */
 function finalTables(run, names = REGISTERS) {
-  const cores = run.registers.map((_, core) => `P${core}`), counts = numbersTable('Cache accesses', ['', ...cores], COUNTS.map(name => [name.replace('_', '-'), ...run.cache.map(each => each.get(name))]));
+  const cores = run.registers.map((_, core) => `P${core}`), counts = numbersTable('Cache accesses', ['', ...cores], COUNTS.map(name => [withMeaning({}, name, name.replace('_', '-')), ...run.cache.map(each => each.get(name))]));
   counts.classList.add('of-caches');
   return [
     ...(names.length === 0 ? [] : [numbersTable('Registers', ['', ...cores], names.map(name => [name, ...run.registers.map(file => file.get(name))]))]),

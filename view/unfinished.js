@@ -18,9 +18,8 @@ function openVerdict(states, sentence) {
   const test = inputOf('why'), quantifier = quantifierOf(test), isForall = quantifier === 'forall', known = currentCommand() === 'why' ? null : whyCan(test);
   const can = states.some(({ holds }) => holds === !isForall) || (known === true && valueOf('searched') !== SET_AT_FIRST.searched ? null : known); // a run of `why` may need deep buffers
   if (quantifier === null || can === null) return [html('p', { role: 'status', class: 'is-open' }, sentence)];
-  const wanted = wantedWords(readTest(test).proposition), end = wanted === null ? 'as the condition says' : `with ${wantedSentence(wanted)}`;
-  const verdict = can !== isForall ? `Yes: ${can ? 'a' : 'each'} run ends ${end}.` : `No: ${can ? 'not each' : 'no'} run ends ${end}.`;
-  return [html('p', { role: 'status' }, verdictOf(verdict)), html('p', {}, sentence)];
+  const wanted = wantedWords(readTest(test).proposition);
+  return [html('p', { role: 'status' }, verdictOf(asClaimed(can, quantifier, wanted))), ...termsPart(wanted), html('p', {}, sentence)];
 }
 
 /** What one can do where a limit was too low, or where somebody stopped the work (`met` final states are known then): buttons and words. */

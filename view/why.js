@@ -2,8 +2,8 @@
 
 // The sheet of `why`: what was asked, and why it can't be, or how it can.
 
-/** The sheet that is shown: the answer, the programs, the cycle that is drawn, and how events are named (`key`). */
-const sheet = { told: null, programs: null, cycle: null, key: '' };
+/** The sheet that is shown: the answer, the programs, and the cycle that is drawn. */
+const sheet = { told: null, programs: null, cycle: null };
 
 /** Whether a module answers `why`, tried on the first test. */
 function tellsWhy(tso) {
@@ -29,7 +29,8 @@ function readTest(input) {
   return { programs, proposition, start };
 }
 
-const MOST_PASSES = 3; // that are told of an execution
+const MOST_PASSES = 4; // that are told of an execution
+const FEW_PASSES = 3; // of a run that did a task
 
 const ORDINALS = ['first', 'second', 'third', 'fourth', 'fifth', 'sixth', 'seventh', 'eighth'];
 
@@ -39,6 +40,8 @@ function eventsSaid(text) {
   const locked = / L[RW] /.test(text) ? ', LR and LW are the two parts of a locked instruction' : '', fence = /:\d+ F\b/.test(text) ? ', F is a fence' : '';
   return `${name} is the ${ORDINALS[place]} instruction of P${core}: programs count from 0. R is a load, W a store${locked}${fence}.`;
 }
+
+const keyOfEdges = edges => eventsSaid(edges.map(({ from, to }) => `${from} ${to}`).join(' ')) + readAsSaid(sheet.test);
 
 const READ_AS = { INC: 'ADD', DEC: 'SUB' };
 
@@ -53,7 +56,7 @@ function showReason(answer, test, beside) {
   const told = JSON.parse(answer.text), { programs, proposition } = readTest(test);
   showAnswer(answer);
   foldReport(answer);
-  Object.assign(sheet, { told, programs, test, cycle: null, key: eventsSaid(answer.text) + readAsSaid(test) });
+  Object.assign(sheet, { told, programs, test, cycle: null, events: null });
   const isTso = told.model === 'tso', can = told.answer !== 'never';
   if (!can && isTso) possible.refuted = test;
   if (can && isTso && told.asked?.truth === true) possible.found = test;
@@ -63,8 +66,8 @@ function showReason(answer, test, beside) {
   const heading = answerTitle(title);
   setAll(heading, early);
   const section = html('section', { class: 'reason', 'aria-label': 'Why' }, heading,
-    html('p', { role: 'status' }, ...(isTso ? judgeThought(can) : []), verdictOf(plainAnswer(told, proposition), early)),
-    ...enoughPart(told, test, proposition), ...said, ...drawn, ...countsOffer());
+    html('p', { role: 'status' }, ...(isTso ? judgeThought(can) : []), verdictOf(plainAnswer(told, proposition, quantifierOf(test)), early)),
+    ...termsPart(proposition && wantedWords(proposition)), ...enoughPart(told, test, proposition), ...said, ...drawn, ...countsOffer());
   byId('states').replaceChildren(section);
   const [first, second] = told.answer === 'never' ? cyclesOf(told.steps) : [];
   if (first) drawCycle(first.at);
@@ -72,22 +75,31 @@ function showReason(answer, test, beside) {
   showQuestion(test);
   showFromBehind();
   const isDrawn = section.querySelector('figure') !== null, terms = html('p', { class: 'terms' }, html('strong', {}, 'In litmus terms: '), reasonSentence(told, proposition));
-  if (!isDrawn) section.querySelector('[role=status]').after(html('p', { class: 'small faint' }, sheet.key));
+  if (!isDrawn) section.querySelector('[role=status]').after(html('p', { class: 'small faint' }, eventsSaid(answer.text), readAsSaid(test)));
   section.append(sheetTools(isDrawn, run), html('details', { class: 'in-tables' }, html('summary', {}, 'More about this answer'), ...more, terms));
 }
 
 /** An answer's first sentence, with a sign before a yes and a no. */
 function verdictOf(sentence, attributes = {}) {
-  const [, word = 'plain'] = /^(Yes|No):/.exec(sentence) ?? [];
-  return html('strong', { ...attributes, class: `is-${word.toLowerCase()}` }, sentence);
+  const kind = /^(Yes:|The claim holds)/.test(sentence) ? 'yes' : /^(No:|The claim)/.test(sentence) ? 'no' : 'plain';
+  return html('strong', { ...attributes, class: `is-${kind}` }, sentence);
 }
 
-/** The answer in one plain sentence, with the words that are asked for where the condition is plain. */
-function plainAnswer({ answer, asked }, proposition) {
+/** The answer in one plain sentence, with the words of the condition where it is plain. What the test claims is judged first. */
+function plainAnswer({ answer, asked }, proposition, quantifier) {
   if (asked === null && answer !== 'never') return 'The test has no condition: add one, as exists (0:EAX=0).';
-  const wanted = asked?.truth === true && proposition !== null ? wantedWords(proposition) : null, end = wanted === null ? 'ends so' : `ends with ${wantedSentence(wanted)}`;
-  return answer === 'never' ? `No: no run ${end}.` : `Yes: a run ${end}.`;
+  return asClaimed(answer !== 'never', quantifier, asked !== null && asked.truth === (quantifier !== 'forall') ? wantedWords(proposition) : null);
 }
+
+/** Whether a run ends as is asked (`can`; of `forall`: otherwise), which `wanted` words tell, as the verdict on the condition. */
+function asClaimed(can, quantifier, wanted) {
+  const end = endWords(wanted);
+  if (quantifier === 'exists' || quantifier === null) return can ? `Yes: a run ends ${end}.` : `No: no run ends ${end}.`;
+  const ends = quantifier === 'forall' ? (can ? 'not each run' : 'each run') : can ? 'a run' : 'no run';
+  return `${claimWords(!can)}: ${ends} ends ${end}.`;
+}
+
+const claimWords = holds => `The claim ${holds ? 'holds' : 'is false'}`;
 
 /** Which of the wanted words already can't be together, as the module says: those that no cycle has are left out first. */
 function enoughPart({ answer, asked: wish, model, steps }, test, proposition) {
@@ -98,7 +110,7 @@ function enoughPart({ answer, asked: wish, model, steps }, test, proposition) {
     const input = test.replace(/^[ \t]*(~[ \t]*)?exists\b[^]*/m, () => `exists (${condition})\n`);
     return Date.now() < until && asked({ command: 'why', json: true, model, cases: 100 }, input).text.startsWith('{"answer":"never"') ? fewer : kept;
   }, wanted);
-  return few.length === wanted.length ? [] : [html('p', {}, `${wantedSentence(few)} ${few.length === 1 ? 'is' : 'are'} enough for that.`)];
+  return few.length === wanted.length || (!few.some(isUsed) && wanted.some(isUsed)) ? [] : [html('p', {}, `${wantedSentence(few)} ${few.length === 1 ? 'is' : 'are'} enough for that.`)];
 }
 
 /** Where caches are in sight: that a reason speaks of values alone, and where misses are counted. */
@@ -140,15 +152,17 @@ function allowedParts(answered, programs, proposition, beside) {
   const { model, coherence } = told, late = isCalm ? null : lateRun(programs, DEPTH_OF[model]);
   const choices = own.isShown ? own.choices : late && isExecution(late.run.order, told) ? late.choices : told.choices;
   const places = proposition === null ? null : wantedWords(proposition), wanted = places === null ? [] : askedPlaces(programs, places, coherence);
-  const executed = edgesOf(told), isMany = executed.length > MANY_EDGES && wanted.length > 0;
+  const executed = edgesOf(told);
   const loads = loadsThatPassed(choices, model), cycle = forbiddenCycle(executed, programs, loads, wanted);
-  const passes = passEdges(loads, executed, cycle), few = [...cycle, ...askedEdges(executed, wanted)];
-  const edges = [...new Set(isMany ? [...few, ...executed, ...passes] : [...cycle, ...passes, ...few, ...executed])];
+  const passes = passEdges(loads, executed, cycle), few = cycle.length > 0 ? cycle : askedEdges(executed, wanted);
+  const edges = [...new Set([...cycle, ...passes, ...few, ...executed])];
+  const isMany = few.length > 0 && edges.length > (cycle.length > 0 ? FEW_BESIDE : MANY_EDGES);
   const run = html('button', { type: 'button', 'data-choices': choices, 'data-depth': DEPTH_OF[model] }, 'Run it');
-  const { said, more } = passesPart(loads, own.said, cycle, { isToo, isMany }), note = isCalm ? [html('p', {}, 'The answer as text has a run of its own.')] : [];
+  const isOpen = edgesOfPrograms(executed, programs).some(({ relation, to }) => relation === 'unkept' && !loads.some(({ text }) => nameOfEvent(text) === nameOfEvent(to)));
+  const { said, more } = passesPart(loads, own.said, cycle, { isToo, isMany, isOpen }), note = isCalm ? [html('p', {}, 'The answer as text has a run of its own.')] : [];
   return {
     said: [...sequentialPart(sequential, isCalm && loads.length === 0), ...said],
-    drawn: executionPart(programs, edges, isMany && few.length > 0 ? [...new Set(few)] : edges, cycle),
+    drawn: executionPart(programs, edges, isMany ? few : edges, cycle),
     run: [html('span', { class: 'of-run' }, run, ...choicesPart(choices))],
     more: [...more, html('div', { class: 'beside' }, ...executionTables(told.asked === null ? { ...told, values: { ...registersAtEnd(choices, programs, model), ...told.values } } : told)), ...note],
   };
@@ -157,10 +171,10 @@ function allowedParts(answered, programs, proposition, beside) {
 /** An execution that is drawn, edge by edge: first its forbidden cycle, if it has one. */
 function executionPart(programs, edges, few, cycle) {
   if (edges.length === 0) return [];
-  const [first] = cycle, end = `So this run needs store buffers: without them ${first?.from} would be before itself. TSO doesn't keep the dashed arrows.`;
-  const told = { end: first ? end : '', name: 'The execution', closed: cycle.length, arrow: 'without store buffers, ' };
+  const [first] = cycle, end = first && `So this run needs store buffers: without them ${eventWords(first.from)} would be before itself. TSO doesn't keep the dashed arrows.`;
+  const told = { end: end ?? '', name: 'The execution', closed: cycle.length, arrow: 'without store buffers, ' };
   const panelOf = (shown, isPicked) => new CyclePanel(programs, shown, isPicked ? { ...told, end: '', closed: 0 } : told);
-  return [drawExecution(programs, edges, few, panelOf)];
+  return [drawExecution(programs, edges, few, panelOf, first ? 'a cycle that needs store buffers' : 'those at what is asked for')];
 }
 
 /** Whether one's own run is the one that is shown, its choices, and how a sentence names the shown run. */
@@ -213,17 +227,18 @@ function passEdges(loads, executed, cycle) {
   });
 }
 
-/** What loads passed in the run that a sentence names so, and what keeps such an order. Of many those of the cycle, and the others with what is told in the fold. */
-function passesPart(loads, named, cycle, { isToo, isMany }) {
+/** What loads passed in the run that a sentence names so, and what keeps such an order. Of many those of the cycle, and the others with what is told in the fold. `isOpen`: others may pass. */
+function passesPart(loads, named, cycle, { isToo, isMany, isOpen }) {
   const passes = toldFirst(loads, cycle).flatMap(passSentences), isOne = loads.length === 1;
   if (passes.length === 0) return { said: [], more: [] };
   const title = isOne ? 'A load passes a store' : 'Loads pass stores', rest = passes.splice(isMany ? Math.max(1, loads.filter(load => isOfCycle(load, cycle)).length) : MOST_PASSES);
-  const enough = isOne ? ' One load that passes its store is enough.' : '', cure = isToo ? '' : ' MFENCE or a locked instruction between the store and the load would keep their order.';
-  const others = `In another run that ends so, other loads may pass${isToo ? ', or none' : ''}.`, list = rest.length === 0 ? []
+  const others = `In another run that ends so, other loads may pass${isToo ? ', or none' : ''}.`;
+  const enough = isOne ? ' One load that passes its store is enough.' : '', cure = isToo ? '' : ` MFENCE or a locked instruction between the store and the load would keep their order.${isOpen ? ` ${others}` : ''}`;
+  const list = rest.length === 0 ? []
     : [html('p', {}, `${rest.length} more of this run${isMany ? ', which the cycle doesn\'t have' : ''}:`), html('ul', {}, ...rest.map(each => html('li', {}, each)))];
   return {
-    said: [html('p', { class: 'passing' }, html('strong', {}, `${title} in ${named}: `), passes.join(' ') + enough + cure)],
-    more: [html('p', {}, isToo ? others : `A load that passes a store is the one change of a program's order that TSO allows. ${others}`), ...list],
+    said: [html('p', { class: 'passing' }, html('strong', {}, `${title} in ${named}: `), ...unbroken(passes.join(' ') + (rest.length > 0 ? ` And ${rest.length} ${rest.length === 1 ? 'other' : 'others'}.` : '') + enough + cure))],
+    more: [html('p', {}, isToo ? others : `A load that passes a store is the one change of a program's order that TSO allows.${isOpen ? '' : ` ${others}`}`), ...list],
   };
 }
 
@@ -237,7 +252,7 @@ function markStep(at) {
 function drawCycle(at) {
   markStep(at);
   const { step, cycle } = closingOf(sheet.told.steps[at]), order = step === 'cycle' ? ' in memory order' : '';
-  const end = `So ${cycle[0].from} would be before itself${order}. No order allows that.`, panelOf = () => new CyclePanel(sheet.programs, cycle, { end });
+  const end = `So ${eventWords(cycle[0].from)} would be before itself${order}. No order allows that.`, panelOf = () => new CyclePanel(sheet.programs, cycle, { end });
   byId('states').querySelector('.drawn').replaceChildren(drawExecution(sheet.programs, cycle, cycle, panelOf));
   for (const button of document.querySelectorAll('[data-cycle]')) button.setAttribute('aria-pressed', String(Number(button.dataset.cycle) === at));
 }

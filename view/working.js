@@ -49,7 +49,7 @@ function tellProgress(progress) {
 /** Puts what is said of stopped work under the button that began it, where that stands beside the test; else where the work was shown. */
 function placeStopped() {
   const box = byId('stopped'), isBeside = isAskedBeside();
-  if (isBeside) byId('brief').after(box);
+  if (isBeside) byId('brief').parentElement.after(box);
   else byId('working').after(box);
   box.classList.toggle('placed', isBeside);
   box.hidden = false;
@@ -91,6 +91,7 @@ document.addEventListener('keydown', event => {
   if (event.key !== 'Escape') return;
   if (bench.task !== null) stopWork();
   else if (isLecture() && byId('stopped').hidden && !byId('test-part').open) toggleLecture();
+  else if (event.target.matches('#test-part textarea')) byId('test-part').firstElementChild.focus();
   else if (!isLecture() && !byId('way-back').hidden && !event.target.matches('textarea, input') && !document.querySelector('#folds [open]')) backToRun();
 });
 byId('stop').addEventListener('click', stopWork);

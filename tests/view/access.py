@@ -119,6 +119,38 @@ def contrast_row(bench):
     return faults + safety(bench)
 
 
+REFUSED = "X86 a\n{ }\n P0 | P1 ;\n x = 1; | MOV [y],$1 ;\n MOV EAX,[y] | MOV EAX,[x] ;\nexists (0:EAX=0)\n"
+EIGHT = "X86 eight\n{ }\n%s" % "".join(" %s ;\n" % " | ".join(cell % core for core in range(8)) for cell in ("P%d", "MOV [a%d],$1", "MOV EAX,[a%d]"))
+BAND = """(() => { const line = (Number(byId('test-band').dataset.line) - 1) * parseFloat(getComputedStyle(byId('test')).lineHeight);
+  return Math.abs(byId('test-band').getBoundingClientRect().top - byId('test').getBoundingClientRect().top - parseFloat(getComputedStyle(byId('test')).paddingTop) - line) < 1; })()"""
+
+
+def editor_row(bench):
+    """What is refused, and what mends it, comes next after its field. Its band goes with the window, and no line of eight cores is cut where there is room."""
+    bench.open_fresh(width=1280)
+    bench.value("byId('test-part').open = true")
+    bench.fill("test", REFUSED)
+    faults = []
+    for field, wanted in (("test", "write-so"), ("write-so", "choices")):
+        bench.value("byId('%s').focus()" % field)
+        tab(bench)
+        faults += differs("after " + field, bench.value("document.activeElement.id"), wanted)
+    faults += differs("code", bench.value("[...byId('plain').querySelectorAll('code')].map(each => each.textContent)"), ["x = 1", "MOV [x],$1", ";"])
+    bench.window.resize(1920, 1080)
+    bench.wait(BAND)
+    bench.fill("test", EIGHT + "exists (0:EAX=0)\n")
+    for width in (1280, 1920, 2560):
+        bench.window.resize(width, 900)
+        bench.wait("byId('test').scrollWidth <= byId('test').clientWidth")
+    bench.fill("test", REFUSED.replace("x = 1;", "MFENCE"))
+    faults += differs("a narrow test", bench.value("byId('test-part').classList.contains('wide')"), False)
+    bench.fill("choices", "0s 9z")
+    bench.value("byId('choices').focus()")
+    tab(bench)
+    faults += differs("after the choices", bench.value("document.activeElement.id"), "remove-choices")
+    return faults + safety(bench)
+
+
 def rows(page, folder):
     bench = Driver(page)
     return [
@@ -127,4 +159,5 @@ def rows(page, folder):
         ("targets for fingers", lambda: targets_row(bench, folder)),
         ("names in the tree", lambda: names_row(bench)),
         ("contrast", lambda: contrast_row(bench)),
+        ("the editor's room and keys", lambda: editor_row(bench)),
     ]

@@ -106,7 +106,7 @@ def in_c_row(bench):
     faults = differs("C", bench.value(told), [["x = 1;", "fence;", "r0 = y;"], ["r1 = 2;", "swap(y, r1);", "r2 = x;"]])
     faults += differs("registers", bench.value("[...document.querySelectorAll('.registers')].map(each => each.textContent)"), ["ECX (r0)=0", "EAX (r1)=0EBX (r2)=0"])
     find_outcomes(bench)
-    faults += differs("the table", bench.value("[...document.querySelectorAll('#states th[data-c]')].map(each => each.textContent + each.dataset.c)"), ["0:ECX (r0)", "1:EAX (r1)", "1:EBX (r2)"])
+    faults += differs("the table", bench.value("[...document.querySelectorAll('#states th[data-c]')].map(each => [each.textContent, each.dataset.c].join(' '))"), ["0:ECX r0", "1:EAX r1", "1:EBX r2"])
     bench.open_fresh()
     bench.fill("test", own.replace("MFENCE", "LOCK XADD [x],EAX"))
     return faults + differs("without a form", bench.value(told), [[None] * 3] * 2) + safety(bench)

@@ -224,6 +224,96 @@ def picked_row(bench):
     return faults + safety(bench)
 
 
+def ring(size):
+    """Two rings of SB, of 4 cores and of the rest, whose condition asks for each load."""
+    cores, last = range(size), size - 4
+    after = [(core + 1) % 4 if core < 4 else 4 + (core - 3) % last for core in cores]
+    rows = [" | ".join("P%d" % core for core in cores), " | ".join("MOV [%s],$1" % "abcdefgh"[core] for core in cores), " | ".join("MOV EAX,[%s]" % "abcdefgh"[core] for core in after)]
+    return "X86 RING\n{ }\n%s\nexists (%s)\n" % ("\n".join(row + " ;" for row in rows), " /\\ ".join("%d:EAX=0" % core for core in cores))
+
+
+def many_terms_row(bench):
+    """A condition of many terms isn't a heading: they stand below it. Of more arrows than a few those of one cycle are drawn first, and all by one press. A hint of a limit has a line for
+    each sentence."""
+    bench.open_fresh(width=1280)
+    bench.fill("test", ring(8))
+    bench.value("askWhy()")
+    bench.wait("!bench.task && document.querySelector('.reason .drawn-part')")
+    said = "[...document.querySelectorAll('#states [role=status] > strong, #states details.small[open] > summary')].map(each => each.textContent)"
+    faults = differs("why", bench.value(said), ["Yes: a run ends so.", "What is asked for: 8 values"])
+    faults += differs("the task", bench.value("taskSentence('', readTest(inputOf('why')).proposition, 'exists', [])"), "End as the condition asks, with 8 values.")
+    drawn = "[sheet.cycle.cycle.length, sheet.cycle.closed]"
+    faults += differs("arrows", [bench.value(drawn), bench.value("document.querySelector('.pick[value=P]').click(), " + drawn)], [[8, 8], [12, 0]])
+    faults += differs("broken names", bench.value("[...document.querySelectorAll('.edges .unbroken')].filter(each => each.getClientRects().length > 1).length"), 0)
+    hint = "hint: the machine can reach more than 1000000 states, the limit of --states: raise it; tso why needs no states\nhint: run these: " + " ".join(["0s"] * 20)
+    lines = ["The machine can reach more than 1,000,000 states, the limit of “Limit of states”: raise it.", "“Why” needs no states.", "Run these: " + "0s " * 12 + "…"]
+    return faults + differs("a limit", bench.said(hint).split("\n"), lines) + safety(bench)
+
+
+LED = """(() => {
+  const { top, bottom } = document.querySelector('.reason figure').getBoundingClientRect(), { isNarrow } = sheet.cycle, chips = [...document.querySelectorAll('.reason .chip')].map(each => each.getBoundingClientRect());
+  const isClear = chips.every((one, at) => chips.slice(0, at).every(other => one.right < other.left || other.right < one.left || one.bottom < other.top || other.bottom < one.top));
+  return [bottom <= innerHeight && top >= 0, parseFloat(getComputedStyle(document.querySelector('.reason .edge text')).fontSize) * chips[0].height / ROUTES.chip >= 11, isClear];
+})()"""
+
+
+def taught_row(bench):
+    """In a lesson the picture of why is in sight, on a phone by \u201cNext arrow\u201d; there its letters are large enough, and apart. An arrow is marked while the list has the focus, and no longer; what is
+    saved has all arrows alike."""
+    faults = []
+    for width, height in ((1280, 800), (390, 844)):
+        bench.open_fresh(width=width)
+        bench.window.resize(width, height)
+        bench.value("beginLesson('fences'); enterStep(9); askWhy()")
+        bench.wait("!bench.task && document.querySelector('.reason figure')")
+        bench.value("document.querySelector('[data-edges=next]').click()")
+        faults += differs("at %d" % width, bench.value(LED), [True, True, True])
+    bench.window.resize(1280, 800)
+    bench.open_fresh(width=1280)
+    bench.value("askWhy()")
+    bench.wait("!bench.task && document.querySelector('.reason .edges')")
+    pointed = "document.querySelectorAll('.reason .pointed').length"
+    bench.value("document.querySelector('.edges li').focus()")
+    faults += differs("with the focus", bench.value(pointed), 3)
+    faults += differs("saved", bench.value("(() => { let found; withWholeCycle(() => { found = %s; }); return found; })()" % pointed), 0)
+    bench.value("document.querySelector('.edges li:last-child').focus(), document.querySelector('.reason .tools select').focus()")
+    return faults + differs("without it", bench.value(pointed), 0) + safety(bench)
+
+
+WIDE_RING = """X86 wide
+{ }
+ P0 | P1 | P2 | P3 | P4 | P5 | P6 | P7 ;
+ MOV [a],$1 | MOV [b],$1 | MOV [c],$1 | MOV [d],$1 | MOV [e],$1 | MOV EAX,[e] | MOV [f],$1 | MOV EAX,[f] ;
+ MOV EAX,[b] | MOV EAX,[c] | MOV EAX,[d] | MOV EAX,[a] | MOV [e],$2 | MOV EBX,[e] | MOV [f],$2 | MOV EBX,[f] ;
+exists (0:EAX=0 /\\ 1:EAX=0 /\\ 2:EAX=0 /\\ 3:EAX=0 /\\ 5:EAX=1 /\\ 5:EBX=2)
+"""
+
+
+def claims_row(bench):
+    """What a test claims is judged first, by why and by all outcomes; the advice on fences says where other loads may pass."""
+    said = {"SB ~exists": ["The claim is false: a run ends with 0 in P0's EAX and 0 in P1's EAX.", "The claim is false: 1 of 4 outcomes under TSO has 0 in P0's EAX and 0 in P1's EAX.", "is-no"],
+            "SB+mfences ~exists": ["The claim holds: no run ends with 0 in P0's EAX and 0 in P1's EAX.", "The claim holds: none of 3 outcomes under TSO has 0 in P0's EAX and 0 in P1's EAX.", "is-yes"],
+            "SB forall": ["The claim is false: not each run ends with 0 in P0's EAX and 0 in P1's EAX.", "The claim is false: only 1 of 4 outcomes under TSO has 0 in P0's EAX and 0 in P1's EAX.", "is-no"]}
+    faults = []
+    bench.open_fresh()
+    for case, wanted in said.items():
+        name, quantifier = case.split()
+        bench.fill("test", reasons.text_of(name).replace("exists", quantifier))
+        got = []
+        for command in ("why", "outcomes"):
+            bench.value("ask('%s')" % command)
+            bench.wait("!bench.task && document.querySelector('#states %s')" % {"why": ".reason", "outcomes": ".states-sheet"}[command])
+            got.append(bench.text("#states > [role=status] > strong, .reason > [role=status] > strong"))
+        faults += differs(case, got + [bench.value("document.querySelector('#states [role=status] > strong').className")], wanted)
+    advice = "MFENCE or a locked instruction between the store and the load would keep their order."
+    for test, said in ((ring(4), "(P3:1 passed P3:0). " + advice), (WIDE_RING, advice + " In another run that ends so, other loads may pass.")):
+        bench.fill("test", test)
+        bench.value("askWhy()")
+        bench.wait("!bench.task && document.querySelector('.passing')")
+        faults += [] if bench.text(".passing").endswith(said) else [bench.text(".passing")]
+    return faults + safety(bench)
+
+
 STATUSES = """(async () => {
   Object.assign(possible, { test: null, refuted: null, found: null });
   const task = beginTask(bench.bytes, questionsOf('outcomes', { command: 'outcomes', depth: 32, states: %d }), inputOf('outcomes'));
@@ -285,5 +375,5 @@ def weights_row(bench):
 def rows(page, folder):
     bench = Driver(page)
     return [("pictures that are clear", lambda: clear_row(bench, folder)), ("cores and arrows left out", lambda: left_out_row(bench)), ("how a picture of many arrows opens", lambda: opened_row(bench)), ("the words that are enough", lambda: enough_row(bench)),
-            ("a sheet of why, its parts", lambda: sheet_row(bench)), ("arrows that are picked", lambda: picked_row(bench)), ("outcomes that meet their limit, and what why says", lambda: limit_row(bench)),
+            ("a sheet of why, its parts", lambda: sheet_row(bench)), ("arrows that are picked", lambda: picked_row(bench)), ("a condition of many terms", lambda: many_terms_row(bench)), ("why in a lesson", lambda: taught_row(bench)), ("claims, judged", lambda: claims_row(bench)), ("outcomes that meet their limit, and what why says", lambda: limit_row(bench)),
             ("what moves", lambda: motion_row(bench)), ("weights of buttons", lambda: weights_row(bench))]

@@ -159,11 +159,17 @@ def wanted_core(trace, step, before, machine, number):
     }
 
 
+def taken_copies(step):
+    """The copies, newer than memory, that a miss for writing took from another core: where they were, and who took them."""
+    changes = [(text[1:text.index(".")], *text.partition(".")[2].split(" ")) for text in (step["states"] if step and step["access"] == "miss" else [])]
+    return [["cache", owner, line_said(line), "→P" + step["choice"][0]] for owner, line, change in changes if owner != step["choice"][0] and change in ("M>I", "O>I")]
+
+
 def wanted_sources(step):
-    """Where a panel has to mark that a word was read: the part of the machine, its core, the location or the line, and the reader."""
+    """Where a panel has to mark that a word was read, or a line taken: the part of the machine, its core, the location or the line, and who did."""
     supplied = step and step.get("supplied")  # a module that was made before has none
     if not supplied:
-        return []
+        return taken_copies(step)
     reader, owner = step["choice"][0], supplied[1:] if supplied[0] == "P" else step["choice"][0]
     locations = [step["entries"][0].split(" ")[2].partition("=")[0]] if step["entries"] else step["after"]["bus"]["line"].split("+")
     if supplied == "bus":

@@ -135,7 +135,7 @@ class Firefox:
         method, said = event.get("method"), event.get("params", {})
         if method == "log.entryAdded" and said["level"] == "error":
             self.faults.append(str(said.get("text")))
-        elif method == "network.beforeRequestSent":
+        elif method == "network.beforeRequestSent" and not said["request"]["url"].startswith("data:font/"):  # one of its own, at its first page: ours may load none
             self.requests.append(said["request"]["url"])
 
     def open(self, address):

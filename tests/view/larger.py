@@ -104,7 +104,7 @@ def reasons_row(bench, folder):
     """Why nobody gets a lock twice is told in words where no value is left, and by a cycle through locked instructions."""
     faults = []
     for name, said in (("CASLOCK", r"It can't be: (no word is left that P0's EAX could have at the end|nothing is left that P0:0 LR l=0 can read)\."),
-                       ("TRYLOCK+both", r"It can't be: P0:0 W x=1 would be before itself in memory order\.")):
+                       ("TRYLOCK+both", r"It can't be: P0's store x=1 would be before itself in memory order\.")):
         bench.open_fresh()
         bench.value("takeFromLibrary('%s.litmus')" % name)
         bench.value("askWhy()")

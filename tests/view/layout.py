@@ -188,6 +188,7 @@ def wide_answer_row(bench):
     bench.fill("test", EIGHT)
     faults = differs("the list", bench.value("byId('library').open"), False)
     press(bench, "#commands [value=why]")
+    faults += differs("the button, below the text", bench.value("byId('begin').getBoundingClientRect().top - byId('test').getBoundingClientRect().bottom < 40"), True)
     press(bench, "#begin")
     bench.wait("!bench.task && document.querySelector('.reason')")
     faults += differs("the answer in sight", is_in_sight(bench, ".answer-title"), True)
@@ -271,7 +272,7 @@ def hall_words_row(bench):
         lines = bench.value("[0, ...drive.words].map((_, at) => (goTo(at), byId('sentence').offsetHeight / parseFloat(getComputedStyle(byId('sentence')).lineHeight)))")
         faults += [] if max(lines) < 2.3 else ["the sentence has %s lines" % lines]
         said = bench.value(FOUR + ".map(each => [each.querySelector('.said').matches('.differs'), each.querySelector('.said').textContent])")
-        owner = "P0 keeps the line as its owner; memory keeps the old word."
+        owner = "P0 keeps the line as its owner; memory keeps the old words."
         faults += differs("said", [each for each, text in said] + [text for each, text in said[2:]], [False, False, True, True, owner, owner])
         bench.value("putLecture(false)")
     return faults + safety(bench)

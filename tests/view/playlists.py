@@ -218,7 +218,7 @@ WHERE = "[playlist.at, sheet.cycle?.element.isConnected ? sheet.cycle.shown : nu
 
 
 def both_ways_row(bench):
-    """A clicker goes back through answers as it went on: to the one before from the start of each, and there to its end."""
+    """A clicker goes back through answers as it went on: to the one before from the start of each, and there to its end, of a run to the end of its reason."""
     bench.open_fresh()
     bench.value("addToList(); loadText('store-buffering-fenced.litmus'); findOutcomes()")
     bench.wait("!bench.task && document.querySelector('.states-sheet')")
@@ -227,7 +227,8 @@ def both_ways_row(bench):
     bench.value("addToList(); openListed(0); makeChoice('0s'); addToList(); putLecture(true); openListed(3)")
     faults = []
     for where, ready in (([2, 4, None], "document.querySelector('.cycle')"), ([2, 3, None], "true"), ([2, 2, None], "true"), ([2, 1, None], "true"), ([2, 0, None], "true"),
-                         ([1, None, None], "document.querySelector('.states-sheet')"), ([0, None, 6], "drive.isOn"), ([0, None, 5], "true")):
+                         ([1, None, None], "document.querySelector('.states-sheet')"), ([0, 4, None], "document.querySelector('.cycle')"),
+                         *(([0, arrow, None], "true") for arrow in (3, 2, 1, 0)), ([0, None, 6], "drive.isOn"), ([0, None, 5], "true")):
         bench.value(CLICKED % "PageUp")
         bench.wait("!bench.task && " + ready)
         faults += differs("after PageUp", bench.value(WHERE), where)
@@ -367,7 +368,7 @@ def written_row(bench):
     faults = differs("marked", [bench.value(marks % count) for count in (2, 3, 4, 5)], [[0, 0], [1, 0], [0, 1], [0, 0]])
     bench.value("loadText('false-sharing.litmus'); putBeside(JSON.stringify(ABREAST)); goTo(7)")
     told = bench.value("['#programs code.changed', '#programs .changed.word', '.machine h3'].map(each => [...document.querySelectorAll(each)].map(each => each.textContent))")
-    return faults + differs("abreast", told, [["MOV EAX,[y]"], ["EAX (r0)=1"], ["MSI", "MESI, as MSI so far", "MOESI", "MOSI"]]) + safety(bench)
+    return faults + differs("abreast", told, [["MOV EAX,[y]"], ["EAX (r0)=1"], ["MSI", "MESI, as MSI in this run", "MOESI", "MOSI"]]) + safety(bench)
 
 
 def rows(page, folder):

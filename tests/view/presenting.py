@@ -181,7 +181,7 @@ def taken_row(bench):
         found.append(bench.value("byId('sentence').textContent"))
         bench.value("goTo(2)")
         faults += [] if "invalid" not in bench.text("#sentence") else ["too early: " + bench.text("#sentence")]
-    return faults + [said for said in found if not said.endswith(" GetM x, y went on the bus. P0's copy of x, y became invalid.")] + safety(bench)
+    return faults + [said for said in found if not said.endswith(" GetM x, y went on the bus. P0 sent its copy. P0's copy of x, y became invalid.")] + safety(bench)
 
 
 def pointer_row(bench):
@@ -241,7 +241,7 @@ def abreast_row(bench, folder):
     marks = bench.value("[...document.querySelectorAll('.machine')].map(each => [each.querySelectorAll('.cache .differs').length, each.querySelector('.memory').matches('.differs')])")
     faults += differs("marked", marks, [[0, False], [0, False], [1, True], [1, True]])
     faults += [] if "Done. Under MSI: 4 misses, " in bench.text("#task-after") else ["the task says " + bench.text("#task-after")]
-    faults += differs("why at the end, and of which", [bench.text("#sentence").split(":")[0], bench.text("#sentence").rsplit(". ", 1)[1]], ["1s under MSI and MESI", "4 of 4 accesses missed: x and y share a line, which 3 of them took from the other core."])
+    faults += differs("why at the end, and of which", [bench.text("#sentence").split(" 4 of")[0], bench.text("#sentence").rsplit(". ", 1)[1]], ["1s: P1 read y=1 from P0's cache. Under MSI and MESI: P0 sent its copy to memory. Under MOESI and MOSI: P0 keeps the line as its owner; memory keeps the old words.", "4 of 4 accesses missed: x and y share a line, which 3 of them took from the other core."])
     bench.window.screenshot(os.path.join(folder, "abreast.png"))
     return faults + bench.value(OVERHANGING) + safety(bench)
 

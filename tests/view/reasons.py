@@ -64,7 +64,7 @@ def ask(bench, name, model):
 
 TREE = """(function told(list) {
   return [...list.children].map(item => item.firstElementChild?.matches('details')
-    ? [item.querySelector('summary').textContent, told(item.querySelector('ul'))] : [...item.childNodes].filter(each => each.nodeName === '#text').map(each => each.textContent).join('').trim());
+    ? [item.querySelector('summary').textContent, told(item.querySelector('ul'))] : [...item.childNodes].filter(each => each.nodeName !== 'BUTTON').map(each => each.textContent).join('').trim());
 })(document.querySelector('.tree > ul'))"""
 CYCLE = """({
   edges: [...document.querySelectorAll('.drawn [data-letters]')].map((edge, at) => [edge.querySelector('text').textContent.replace(`${arrowName(at)} `, ''),
@@ -97,11 +97,15 @@ def closing_of(step):
     return step.get("closing") or step
 
 
+def in_words(event):
+    return re.sub(r"(P\d):\d+ (L?)(\w) (\w+)", lambda found: found[1] + "'s " + "locked " * bool(found[2]) + {"R": "load of ", "W": "store "}[found[3]] + found[4], re.sub(r"( L?R \w+)=\d+", r"\1", event))
+
+
 def words_of(step):
     """Words that a step's sentence must have."""
     if "facts" in step or "answers" in step or "closing" in step:
         facts = step.get("facts", []) + [fact for answer in step.get("answers", []) for fact in answer]
-        return [re.match(r"P\d:\d+ \w+ \w+|", fact)[0] for fact in facts] + (words_of(step["closing"]) if step.get("closing") else [])
+        return [(in_words if step["step"] == "given" else str)(re.match(r"P\d:\d+ \w+ \w+|", fact)[0]) for fact in facts] + (words_of(step["closing"]) if step.get("closing") else [])
     if step["step"] in ("none", "lemma"):
         return [step["of"].split(" initial")[0]] if step["step"] == "none" else ["lemma %d" % step["lemma"]]
     if step["step"] in ("case", "so"):
@@ -109,7 +113,7 @@ def words_of(step):
         return [step.get("read") or step["first"], *sources, *([step["second"]] if "second" in step else []), *(["initial value"] if "initial" in step.get("from", []) else [])]
     if step["step"] == "false":
         return [str(word) for words in step["places"].values() for word in words]
-    return [step["cycle"][0]["from"]] if "cycle" in step else [step["between"]] if "between" in step else ["No other case"]
+    return [in_words(step["cycle"][0]["from"])] if "cycle" in step else [step["between"]] if "between" in step else ["No other case"]
 
 
 def faults_of_tree(shown, wanted, name):
@@ -199,14 +203,14 @@ def unkept_row(bench):
     bench.fill("test", MANY_PASS)
     bench.value("putCommand('why'); begin()")
     bench.wait("!bench.task && document.querySelector('.reason')")
-    faults += differs("of many loads that pass", bench.value("(fold => [fold.textContent.includes('5 more of this run:'), [...fold.querySelectorAll('li')].map(each => each.textContent[1])])(document.querySelector('.reason > .in-tables'))"), [True, [*"34567"]])
+    faults += differs("of many loads that pass", bench.value("(fold => [fold.textContent.includes('6 more of this run, which the cycle'), [...fold.querySelectorAll('li')].map(each => each.textContent[1])])(document.querySelector('.reason > .in-tables'))"), [True, [*"234567"]])
     lanes = "[...document.querySelectorAll('.reason .head')].map(each => each.textContent)"
     room = "(figure => [figure.scrollWidth <= figure.clientWidth, figure.getBoundingClientRect().right <= innerWidth])(document.querySelector('.reason figure'))"
     bench.window.resize(1280, 800)
     bench.fill("test", MANY_PASS + "\n")
     bench.value("begin()")
     bench.wait("!bench.task && document.querySelector('.reason')")
-    bench.value("for (const each of document.querySelectorAll('.drawn-part input')) each.click()")
+    bench.value("document.querySelector('.pick[value=P]').click(); for (const each of document.querySelectorAll('.drawn-part input')) each.click()")
     faults += differs("eight cores", bench.value(lanes), ["P%d" % core for core in range(8)]) + differs("side by side at 1280", bench.value(room), [True, True])
     faults += differs("long tables", bench.value("document.querySelector('.in-tables').open"), False)
     bench.load(text_of("SB"), "0s 1s 0s 1s 0d 1d")
@@ -227,7 +231,7 @@ def stepped_row(bench):
         shown.append(bench.value(step))
     faults = differs("of SB", shown, [[0, 4, []]] + [[at, 4, [edge]] for at, edge in enumerate(("edge-unkept", "edge-fr", "edge-unkept", "edge-fr"), 1)])
     end = bench.text(".cycle .edge-said strong")
-    faults += differs("the end", end, "So this run needs store buffers: without them P0:0 W x=1 would be before itself. TSO doesn't keep the dashed arrows.")
+    faults += differs("the end", end, "So this run needs store buffers: without them P0's store x=1 would be before itself. TSO doesn't keep the dashed arrows.")
     bench.load(TWO, "")
     bench.value("askWhy()")
     bench.wait("!bench.task && document.querySelector('.reason')")

@@ -294,6 +294,10 @@ CHANGED = "Changed: 3 places: line 4: mov dword ptr [x], 1 became MOV [x],$1; li
 LISTING = "f():\n  push rbp\n  mov rbp, rsp\n  mov DWORD PTR x[rip], 1  # x\n  lock or DWORD PTR [rsp], 0\n  mov r8d, DWORD PTR y[rip]\n  mov eax, DWORD PTR y[rip]\n  ret\ng():\n  .cfi_startproc\n  movl $1, y(%rip)\n"
 LISTED = "X86 pasted\n{ }\n P0          | P1         ;\n MOV [x],$1  | MOV [y],$1 ;\n MFENCE      |            ;\n MOV EBX,[y] |            ;\n MOV EAX,[y] |            ;\nexists (0:EBX=0 /\\ 0:EAX=0)\n"
 FOREIGN = "X86 foreign\n{ }\n P0 | P1 ;\n MOV EAX,[x] | MOV R8D,[x] ;\n MOV R8D,[y] | MOV EAX,[y] ;\n MOV [x],R8D | MOV EBX,[y] ;\nexists (0:R8D=1 /\\ 1:R8D=1)\n"
+NAMED = "f:\n movl r0(%rip), %eax\n mov [rip+r8], 2\n .data\nr0:\n .long 5\n"
+FROM_NAMED = "X86 pasted\n{ _r0=5; }\n P0            ;\n MOV EAX,[_r0] ;\n MOV [_r8],$2  ;\nexists (0:EAX=0)\n"
+EXPLORED = "".join("t%d:\n        mov     eax, 1\n        xchg    eax, DWORD PTR flag%d[rip]\n        mov     eax, DWORD PTR flag%d[rip]\n        ret\n" % (core, core, 1 - core) for core in (0, 1))
+FROM_EXPLORED = "X86 pasted\n{ }\n P0               | P1               ;\n mov eax, 1       | mov eax, 1       ;\n XCHG [flag0],EAX | XCHG [flag1],EAX ;\n MOV EAX,[flag1]  | MOV EAX,[flag0]  ;\nexists (0:EAX=0 /\\ 1:EAX=0)\n"
 RENAMED = "X86 foreign\n{ }\n P0          | P1          ;\n MOV EAX,[x] | MOV ECX,[x] ;\n MOV EBX,[y] | MOV EAX,[y] ;\n MOV [x],EBX | MOV EBX,[y] ;\nexists (0:EBX=1 /\\ 1:ECX=1)\n"
 GCC = '\t.file\t"a.c"\n\t.text\nf:\n.LFB0:\n\t.cfi_startproc\n\tmovl\t$1, x(%rip)\n\tmovl\ty(%rip), %eax\n\tret\n.LFE0:\n\t.size\tf, .-f\ng:\n\tmovl\t$1, y(%rip)\n\tlock orq\t$0, (%rsp)\n\tret\n\t.data\ny:\n\t.long\t5\n'
 FROM_GCC = "X86 pasted\n{ y=5; }\n P0          | P1         ;\n MOV [x],$1  | MOV [y],$1 ;\n MOV EAX,[y] | MFENCE     ;\nexists (0:EAX=0)\n"
@@ -305,7 +309,7 @@ def listing_row(bench):
     """A compiler's listing becomes a test by one press, and a raw file of an assembler, and a test of X86_64 one of X86; and a register that isn't read here one that its core
     doesn't use, in the condition too. It says what became of them, each kind of change once."""
     faults = []
-    for text, name, written, said in ((LISTING, "Write it as a test", LISTED, "a test of 2 cores"), (GCC, "Write it as a test", FROM_GCC, "a test of 2 cores; line 5: lock orq $0, (%rsp) became MFENCE"),
+    for text, name, written, said in ((LISTING, "Write it as a test", LISTED, "a test of 2 cores"), (EXPLORED, "Write it as a test", FROM_EXPLORED, "line 5: xchg eax, DWORD PTR flag0[rip] became XCHG [flag0],EAX"), (NAMED, "Write it as a test", FROM_NAMED, "a test of 1 core, location r0 became _r0, location r8 became _r8"), (GCC, "Write it as a test", FROM_GCC, "a test of 2 cores; line 4: movl $1, x(%rip) became MOV [x],$1; line 4: movl $1, y(%rip) became MOV [y],$1; line 5: lock orq $0, (%rsp) became MFENCE"),
                                       (FOREIGN, "Write it so", RENAMED, "P1: R8D became ECX; P0: R8D became EBX"), (DIY, "Write it so", FROM_DIY, "X86_64 became X86, with registers of 32 bits")):
         bench.open_fresh()
         bench.fill("test", text)
@@ -313,7 +317,9 @@ def listing_row(bench):
         press(bench, "#write-so")
         faults += differs("written", bench.value("byId('test').value"), written)
         faults += [] if said in bench.text(".writing .noticed") else ["it says " + bench.text(".writing .noticed")]
-    faults += differs("with a jump", bench.value("listingAsTest('f:\\n mov eax, x\\n jne .L2\\n.L2:\\n')"), None)
+    bench.fill("test", GCC.replace("\tret\n", "\ttestl\t%eax, %eax\n\tje\t.L5\n", 1))
+    said = "Line 8 (testl) and line 9 (je): there are no jumps, compares or calls here. Keep the one way that is taken: without such lines this can be written as a test."
+    faults += differs("with a jump", bench.value("[byId('write-so').hidden, byId('plain').textContent, byId('test-band').dataset.line]"), [True, said, "8"])
     return faults + safety(bench)
 
 
@@ -325,12 +331,20 @@ def certain_row(bench):
             ("MOV EAZ,[y] | MFENCE ;", "EAZ is no register: write EAX", "MOV EAX,[y] | MFENCE ;"),
             ("XADD [x],EBX | MFENCE ;", "'XADD [x],EBX' isn't read without LOCK, which makes it one step: LOCK XADD [x],EBX", "LOCK XADD [x],EBX | MFENCE ;"),
             ("exists (0:RAX=0)", "RAX has 64 bits, and registers have 32 here: EAX stands for it, write EAX", "exists (0:EAX=0)"),
+            ("x = 1; | MFENCE ;", "'x = 1': write MOV [x],$1; leave out the ; behind it, which ends a row", "MOV [x],$1 | MFENCE ;"),
+            ("MFENCE | MFENCE; ;", "; stands twice: a row ends with one ;", "MFENCE | MFENCE;"),
+            ("~exist (x=0)", "exist: write exists", "~exists (x=0)"), ("exits (x=0)", "exits is no instruction: write exists", "exists (x=0)"),
             ("exists (0:EAX==0 && x=1 || y=1)", "'=': in a condition write /\\ for and, \\/ for or", "exists (0:EAX=0 /\\ x=1 \\/ y=1)"),
             ("exists (0:EAX==0 and x=1 or y=1)", "and: in a condition write /\\ for and, \\/ for or", "exists (0:EAX=0 /\\ x=1 \\/ y=1)"),
+            ("fence; | MFENCE ;", "; stands behind fence: leave it out: it ends a row, and | splits cells", "MFENCE | MFENCE ;"),
+            ("MFENCE | fence ;", "fence isn't read: the fence is MFENCE; leave out one that keeps only loads", "MFENCE | MFENCE ;"),
+            ("xchg\teax, DWORD PTR f[rip] | MFENCE ;", "'xchg eax, DWORD PT..': write XCHG [f],EAX", "XCHG [f],EAX | MFENCE ;"),
             ("MFENCE | jnz a ;", "jnz isn't read: leave it out; write the one way that is taken", None)):
         faults += differs("of " + line, bench.value("repaired(%s, %s)?.text ?? null" % (json.dumps(line), json.dumps("hint: line 1: %s\n" % hint))), meant)
     aligned = bench.value("aligned('X86 a\\n{ x=0; }\\nP0|P1;\\nMFENCE|MOV EAX,[x];\\nexists (x=0)\\n')")
     faults += differs("changed", bench.value("changesSaid([{ line: 4, said: 'a' }, { line: 6, said: 'a' }, { said: 'b', isOther: true }])"), "b; lines 4 and 6: a. Undo takes all back. ")
+    faults += differs("in their order", bench.value("changesSaid([{ line: 5, said: 'b' }, { line: 4, said: 'a' }, { line: 6, said: 'a' }, { line: 7, said: 'c', isOther: true }])"), "lines 4 and 6: a; line 5: b; line 7: c. Undo takes all back. ")
+    faults += differs("short", bench.said("hint: line 5: fence isn't read: the fence is MFENCE; leave out one\n"), "hint: line 5: fence: write MFENCE")
     signs = bench.value("repaired('exists (x==0 && y==1)', \"hint: line 1: '=': in a condition\").said")
     faults += differs("signs", signs, "== became =, && became /\\")
     return faults + differs("aligned", aligned, "X86 a\n{ x=0; }\n P0     | P1          ;\n MFENCE | MOV EAX,[x] ;\nexists (x=0)\n")
@@ -343,7 +357,7 @@ def written_row(bench):
         bench.open_fresh()
         bench.value(CERTAIN)
         bench.fill("test", COPIED % cell)
-        faults += differs("offered", bench.value("[byId('write-so').hidden, byId('plain').textContent]"), [False, "Line 4: 'mov dword ptr [x], 1': write MOV [x],$1."])
+        faults += differs("offered", bench.value("[byId('write-so').hidden, byId('plain').textContent]"), [False, "Line 4: mov dword ptr [x], 1: write MOV [x],$1."])
         press(bench, "#write-so")
         rows = bench.value("byId('test').value.split('\\n').slice(3, 5).map(row => row.replace(/ +/g, ' '))")
         faults += differs("the test", rows, [" MOV [x],$1 | MOV [x],$1 ;", " MOV EAX,[y] | MOV [y],$2 ;"])

@@ -39,7 +39,7 @@ def met_before_row(bench):
     bench.wait("working.progress !== null && working.progress.count > 2000")
     press(bench, "#stop")
     met = bench.value("readMet(working.progress.answer.text).states.length")
-    faults = differs("beside the button", bench.value("byId('brief').nextElementSibling.id"), "stopped")
+    faults = differs("beside the button", bench.value("byId('brief').parentElement.nextElementSibling.id"), "stopped")
     faults += differs("offered", bench.value("document.querySelectorAll('#stopped [data-met]').length"), int(met > 0))
     if met == 0:
         return faults
