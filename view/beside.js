@@ -71,11 +71,18 @@ function markDifferences() {
   const [first, ...others] = drawn.panels;
   for (const panel of others) {
     if (others.length > 1) putText(panel.said, saidOtherwise(panel, first));
-    for (const [own, other] of [[panel.said, others.length > 1 ? { textContent: '' } : first.said], [panel.bus.element, first.bus.element], [panel.tally, first.tally], [panel.memory.element, first.memory.element]]) {
+    for (const [own, other] of [[panel.said, others.length > 1 ? { textContent: '' } : first.said], [panel.bus.element, first.bus.element], [panel.memory.element, first.memory.element]]) {
       own.classList.toggle('differs', own.textContent !== other.textContent);
     }
+    markCounts(panel.tally, first.tally);
     panel.panels.forEach((core, at) => markRows(core.lines.element, first.panels[at].lines.element));
   }
+}
+
+/** Marks of the counts of misses, upgrades and so on those that differ. */
+function markCounts(own, first) {
+  const there = first.textContent.split(', ');
+  own.replaceChildren(...own.textContent.split(', ').flatMap((count, at) => [at === 0 ? '' : ', ', count === there[at] ? count : html('span', { class: 'differs' }, count)]));
 }
 
 function markRows(table, first) {

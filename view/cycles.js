@@ -315,7 +315,7 @@ class CyclePanel {
   /** What the step says, where the sentences aren't beside the picture, and for readers of screens. */
   say(edge) {
     const isEnd = this.end.textContent !== '' && (this.shown === this.closed || this.shown === this.last);
-    const said = edge === undefined ? [this.shown > 0 ? 'All arrows that are drawn.' : isLecture() ? 'The arrows come one by one.' : 'Each arrow says what must be before what. “Next arrow” tells them one by one.'] : [`${arrowName(this.shown - 1)} `, chipOf(edge.relation, this.isNarrow), ' ', ...unbroken(edgeSentence(edge)),
+    const said = edge === undefined ? [this.shown > 0 ? 'All arrows that are drawn.' : isLecture() ? '' : 'Each arrow says what must be before what. “Next arrow” tells them one by one.'] : [`${arrowName(this.shown - 1)} `, chipOf(edge.relation, this.isNarrow), ' ', ...unbroken(edgeSentence(edge)),
       html('span', { class: 'faint' }, edge.relation === 'fr' ? ' fr is “from read”.' : ` ${meaningOf(edge.relation, this.cycle)}`)];
     this.said.replaceChildren(...said, ...(isEnd ? [' ', html('strong', {}, ...unbroken(this.end.textContent))] : []));
   }

@@ -71,9 +71,9 @@ const ROWS = { least: 12, most: 18 }; // of the field of a test, which grows wit
 
 /** Gives a test that has no room beside the settings the whole width, the main button below it, and folds the list. */
 function showWidth() {
-  const { classList, open } = byId('test-part'), field = byId('test'), wasWide = classList.contains('wide'), top = scrollY;
-  const key = `${Math.max(...field.value.split('\n').map(line => line.length))} ${innerWidth}`;
+  const { classList, open } = byId('test-part'), field = byId('test'), key = `${Math.max(...field.value.split('\n').map(line => line.length))} ${innerWidth}`;
   if (!open || field.dataset.room === key) return;
+  const wasWide = classList.contains('wide'), top = scrollY; // to ask for it lays the page out
   field.dataset.room = key;
   classList.remove('wide');
   if (classList.toggle('wide', field.scrollWidth > field.clientWidth) && !wasWide) byId('library').open = false;
@@ -307,7 +307,7 @@ function writeRepairs() {
 }
 
 /** A sentence with its code as code. */
-const withCode = said => said.split(/(\B'[^']+'(?=:| )|(?:\bLOCK )?\b[A-Z]{2,7} (?=\S*[[$,])\S*[^\s.:;,]|\bMFENCE\b|\d:E[A-Z]{2}(?:=\d+)?|\B;(?= at| behind|\.))/)
+const withCode = said => said === '' ? [] : said.split(/(\B'[^']+'(?=:| )|(?:\bLOCK )?\b[A-Z]{2,7} (?=\S*[[$,])\S*[^\s.:;,]|\bMFENCE\b|\d:E[A-Z]{2}(?:=\d+)?|\B;(?= at| behind|\.))/)
   .map((part, at) => (at % 2 ? html('code', {}, part.replace(/^'(.*)'$/, '$1')) : part));
 
 /** Marks what is refused, or nothing, and says it in plain words. */

@@ -85,7 +85,7 @@ function isAtRest({ type, screenX: x, screenY: y }) {
   return rests;
 }
 
-/** Shows below a word, above one among buttons, what it means, at the pointer or the focus. What changes under a pointer that rests does nothing. */
+/** Shows above a word, or below where there is no room, what it means, at the pointer or the focus. What changes under a pointer that rests does nothing. */
 function showMeaning(event) {
   const word = event.target.closest?.('[data-means]'), box = byId('meaning');
   if (isAtRest(event) || (!word && box.dataset.by !== event.type)) return;
@@ -95,11 +95,12 @@ function showMeaning(event) {
   box.textContent = MEANINGS[word.dataset.means];
   const { left, top, bottom } = word.getBoundingClientRect(), above = top - box.offsetHeight - 4;
   box.style.left = `${Math.max(4, Math.min(left, document.documentElement.clientWidth - box.offsetWidth - 4))}px`;
-  box.style.top = `${above >= 0 && word.closest('#driving, #saves') ? above : bottom + 4}px`;
+  box.style.top = `${above >= 0 ? above : bottom + 4}px`;
 }
 
 for (const kind of ['pointerover', 'focusin']) document.addEventListener(kind, showMeaning);
 document.addEventListener('focusout', () => { byId('meaning').hidden = true; });
+window.addEventListener('resize', () => { byId('meaning').hidden = true; });
 for (const kind of ['keydown', 'click']) document.addEventListener(kind, () => { byId('meaning').hidden = true; });
 document.addEventListener('pointermove', ({ screenX: x, screenY: y }) => Object.assign(pointerWas, { x, y }), { passive: true });
 

@@ -104,6 +104,15 @@ function scrollsBy(key, element) {
 }
 
 const ASK_KEYS = { o: 'outcomes', w: 'why' };
+const ARROW_KEYS = { ArrowLeft: 'back', ArrowRight: 'next', Home: 'first', End: 'all' };
+
+/** Steps the arrows of a cycle by a key, where one is shown and nothing under the focus scrolls by it. */
+function stepsArrows({ key, target }) {
+  if (!ARROW_KEYS[key] || !sheet.cycle || byId('way-back').hidden || scrollsBy(key, target)) return false;
+  sheet.cycle.move(ARROW_KEYS[key]);
+  return true;
+}
+
 const canEdit = () => bench.tso !== null && lesson.told === null && !isLecture() && byId('letter-keys').checked;
 
 /** Opens the test, to be written on. */
@@ -120,6 +129,7 @@ document.addEventListener('keydown', event => {
   const isForOthers = event.target.matches('textarea, select, input:not([type=checkbox])') || event.ctrlKey || event.altKey || event.metaKey || (event.shiftKey && event.key !== '+');
   if (!isForOthers && ASK_KEYS[event.key] && canAsk() && byId('letter-keys').checked) return ask(ASK_KEYS[event.key]);
   if (!isForOthers && event.key === 'e' && canEdit()) return editTest(event);
+  if (!isForOthers && stepsArrows(event)) return event.preventDefault();
   if (isForOthers || !(shown.run || drive.isOn)) return;
   if (KEYS[event.key] && isAsked() && answerByKey(event.key)) return event.preventDefault();
   if (KEYS[event.key] && scrollsBy(event.key, event.target)) return;

@@ -147,3 +147,21 @@ def own_test_row(bench):
     bench.fill("test", OWN.replace("MOV EAX,[x] ;", "MOV EAX,[x] ;\n | MFENCE ;\n | MOV EBX,[x] ;"))
     tops = "[...new Set([...document.querySelectorAll('.core .buffer')].map(each => Math.round(each.getBoundingClientRect().top)))].length"
     return faults + differs("heights of buffers", bench.value(tops), 1) + safety(bench)
+
+
+def keys_row(bench):
+    """The key e opens the test, and Escape leaves its field; arrow keys step the arrows of an answer, and Escape leads back to the run."""
+    bench.open_fresh(width=1280)
+    bench.value("document.body.dispatchEvent(new KeyboardEvent('keydown', { key: 'e', bubbles: true })); true")
+    faults = differs("the test", bench.value("[byId('test-part').open, document.activeElement.id]"), [True, "test"])
+    bench.window.press("Escape")
+    faults += differs("left", bench.value("document.activeElement.parentElement.id"), "test-part")
+    bench.value("byId('test-part').open = false; byId('ask-why').click()")
+    bench.wait("!bench.task && document.querySelector('.cycle')")
+    shown = []
+    for key in ("ArrowRight", "ArrowRight", "ArrowLeft", "End"):
+        bench.window.press(key)
+        shown.append(bench.value("sheet.cycle.shown"))
+    faults += differs("arrows", shown, [1, 2, 1, 4])
+    bench.window.press("Escape")
+    return faults + differs("the run", bench.value("byId('run').hidden"), False) + safety(bench)

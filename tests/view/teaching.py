@@ -6,7 +6,7 @@ import re
 from bench import DIVIDING_LINE, EXAMPLES, FIRST, READY, differs, read, safety
 from driver import Driver
 from kept import faults_of_form, saved_page
-from lessons import focus_row, guided_row, own_test_row, press, views_row
+from lessons import focus_row, guided_row, keys_row, own_test_row, press, views_row
 
 GALLERY = os.path.join(EXAMPLES, "gallery")
 TEST = read(EXAMPLES, FIRST).partition(DIVIDING_LINE)[0]
@@ -300,7 +300,7 @@ def rows(page, folder):
         ("a lesson, false sharing", lambda: lesson_row(bench, "false-sharing", "document.querySelectorAll('.machine').length === 4 && " + SHARES)),
         *([("a lesson, compare and exchange", lambda: lesson_row(bench, "compare-and-exchange", "document.querySelector('.reason') !== null"))] if has_larger_set(bench) else []),
         ("a lesson that guides", lambda: guided_row(bench)),
-        ("the focus in a lesson", lambda: focus_row(bench)), ("a lesson shows its views again", lambda: views_row(bench)), ("a test of one's own after a lesson", lambda: own_test_row(bench)),
+        ("the focus in a lesson", lambda: focus_row(bench)), ("a lesson shows its views again", lambda: views_row(bench)), ("a test of one's own after a lesson", lambda: own_test_row(bench)), ("keys of the test and of arrows", lambda: keys_row(bench)),
         ("a lesson of the documents", lambda: documented_row(bench)),
         ("a lesson of a teacher", lambda: taught_row(bench, folder)),
         ("tasks", lambda: tasks_row(bench)),
