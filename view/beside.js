@@ -57,10 +57,13 @@ function showPrograms() {
   byId('programs').replaceChildren(...programLines(history.programs, marks, registers));
 }
 
-/** Of a machine that did the same as the first in each step so far: that it did. */
+/** Whether two machines did the same in the first steps. Where they differ, the last ones tell it soonest. */
+const didSame = (one, other, count) => one.steps.slice(0, count).findLastIndex((step, at) => JSON.stringify(step) !== JSON.stringify(other.steps[at])) < 0;
+
+/** Of a machine that did the same so far as one before it: that it did. */
 function asFirst(history, count) {
-  const { steps } = history, { steps: first, options } = firstHistory(), toldOf = all => JSON.stringify(all.slice(0, count));
-  return count > 0 && steps !== first && toldOf(steps) === toldOf(first) ? `, as ${options.protocol.toUpperCase()} ${history.hasEnded(count) ? 'in this run' : 'so far'}` : '';
+  const same = count > 0 && drive.histories.slice(0, drive.histories.indexOf(history)).find(each => didSame(history, each, count));
+  return same ? `, as ${same.options.protocol.toUpperCase()} ${history.hasEnded(count) ? 'in this run' : 'so far'}` : '';
 }
 
 const saidOtherwise = ({ sentences: own }, { sentences: first }) => own.filter(each => !first.includes(each)).join(' ') ||

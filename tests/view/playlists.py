@@ -368,7 +368,7 @@ def written_row(bench):
     faults = differs("marked", [bench.value(marks % count) for count in (2, 3, 4, 5)], [[0, 0], [1, 0], [0, 1], [0, 0]])
     bench.value("loadText('false-sharing.litmus'); putBeside(JSON.stringify(ABREAST)); goTo(7)")
     told = bench.value("['#programs code.changed', '#programs .changed.word', '.machine h3'].map(each => [...document.querySelectorAll(each)].map(each => each.textContent))")
-    return faults + differs("abreast", told, [["MOV EAX,[y]"], ["EAX (r0)=1"], ["MSI", "MESI, as MSI in this run", "MOESI", "MOSI"]]) + safety(bench)
+    return faults + differs("abreast", told, [["MOV EAX,[y]"], ["EAX (r0)=1"], ["MSI", "MESI, as MSI in this run", "MOESI", "MOSI, as MOESI in this run"]]) + safety(bench)
 
 
 def rows(page, folder):
