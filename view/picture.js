@@ -51,6 +51,9 @@ function labelOf(entry, letters) {
   return `${entry.kind} ${name}=${entry.value}`;
 }
 
+/** The letters of a note: larger in a lecture. */
+const noteFont = () => (isLecture() ? 13.5 : NOTE_FONT);
+
 /** What stands above an entry's label: its name, and what it passed as far as there is room. */
 function noteOf(entry, letters) {
   const { passed } = entry;
@@ -144,7 +147,7 @@ function drawEntry(run, layout, entry) {
   return svg('g', { class: kind, 'data-entry': entry.index, 'data-passed': passed.map(store => store.index).join(' ') },
     svg('title', {}, sentenceOf(run, entry)),
     svg('rect', { ...box, rx: isRead(entry) ? 16 : 2 }),
-    fittingText({ class: 'note', x, y: box.y + 0.4 * box.height }, NOTE_FONT, noteOf(entry, Math.floor(noted / (NOTE_FONT * GLYPH))), noted),
+    fittingText({ class: 'note', x, y: box.y + 0.4 * box.height }, noteFont(), noteOf(entry, Math.floor(noted / (noteFont() * GLYPH))), noted),
     fittingText({ x, y: box.y + 0.8 * box.height }, layout.label, labelOf(entry, letters), room));
 }
 

@@ -50,6 +50,9 @@ function sortBy(title) {
 
 const MOST_TRIED = 24; // states whose choices are tried in one's own store buffers
 
+/** That a line of locations, as herd's tests have it, adds no column. */
+const placesNote = () => (/^\s*locations\b/m.test(byId('test').value) ? [html('p', { class: 'small faint' }, 'The line “locations” adds no column: name a place in the condition to see it.')] : []);
+
 /** Says before it is pressed that a run of the table has other store buffers than one's own, where one has no room in these. */
 function depthNote({ states, depth }) {
   const { options } = readSettings('run');
@@ -86,7 +89,7 @@ function statesSheet(outcomes, sequential, truths) {
   programs.querySelectorAll('code').forEach((code, at) => lines.length > 0 && setAll(code, { 'data-c': lines.flat()[at] }));
   const isBroad = Object.keys(outcomes.states[0].values).length > FEW_COLUMNS || programs.childElementCount > MANY_CORES;
   const sheet = html('div', { class: isBroad ? 'states-sheet broad' : 'states-sheet' }, programs,
-    html('div', { class: 'states-told' }, ...(outcomes.states.length > 1 ? [tools] : []), table, more), html('div', { class: 'states-notes' }, ...words, key, ...depthNote(outcomes)));
+    html('div', { class: 'states-told' }, ...(outcomes.states.length > 1 ? [tools] : []), table, more), html('div', { class: 'states-notes' }, ...words, key, ...depthNote(outcomes), ...placesNote()));
   if (outcomes.states.length > 1) filterStates(sheet);
   return [sheet];
 }
