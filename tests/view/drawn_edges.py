@@ -194,6 +194,8 @@ def sheet_row(bench):
             bench.fill("test", reasons.text_of(name))
             bench.value("askWhy()")
             bench.wait("!bench.task && document.querySelector('.reason figure') && document.querySelector('.reason [data-choices]')")
+            bench.value("new Promise(done => setTimeout(done, 300))")  # an edit asks again, too
+            bench.wait("!bench.task && document.querySelector('.reason [data-choices]')")
             found = bench.value(SHEET)
             faults += differs("%s at %d" % (name, width), {each: found[each] for each in wanted}, wanted)
             is_right = found["isBelow"] if width == 390 else found["isSplit"] if (name, width) == ("3.SB", 1280) else found["isBeside"] and found["hole"] < 0.5
