@@ -73,7 +73,7 @@ function keepAddress() {
   if (location.hash === '' && (isLong || address === kept.atFirst)) return;
   const isOther = kept.isNew || currentCommand() !== kept.command, put = isOther ? 'pushState' : 'replaceState';
   const shownAt = isLong ? location.href.split('#')[0] : '#' + address; // none where one that was kept would tell another test
-  window.history[put]({ undoing: undoingToKeep(), ...listToKeep() }, '', shownAt);
+  window.history[put]({ undoing: undoingToKeep(), done: [...doneParts], ...listToKeep() }, '', shownAt);
   Object.assign(kept, { command: currentCommand(), isNew: false });
 }
 

@@ -3,10 +3,10 @@
 // The bench: what is written goes to the module, and its answer is shown.
 
 /**
- * The module and what it was made of, a long task while it runs, and the answer that is shown with its command; null while a machine
- * is driven on from it. `tracing` is what the module tells of steps: `step` alone and the whole trace, the whole `trace`, or null.
- * `hasLargerSet` is whether it has the larger set of instructions. `told` is what the shown sheet was asked. `took` is how many milliseconds the last answer to `why` took, and `again` is the
- * timer of one that comes by itself. `last` is the long command that was asked last.
+ * The module and what it was made of, a long task while it runs, and the answer that is shown; null while a machine is driven on from it.
+ * `tracing` is what the module tells of steps: `step`, `trace` alone, or null. `hasLargerSet`: whether it has the larger set of instructions.
+ * `told`: what the shown sheet was asked. `took`: milliseconds of the last answer to `why`. `again`: the timer of an answer that comes by
+ * itself. `last`: the long command that was asked last.
  */
 const bench = { tso: null, bytes: null, task: null, answer: null, tracing: null, hasLargerSet: false, told: null, took: Infinity, again: null, last: 'outcomes' };
 
@@ -92,6 +92,7 @@ function showAsked(command) {
   showTestLine(command);
   document.title = `${testName()} – Litmus tests under TSO`;
   showWordsLine(command);
+  putText(byId('begin-said'), '');
   putText(byId('enter-asks'), Object.hasOwn(BEGINS, command) ? `Ctrl+Enter: ${BEGINS[command]}` : '');
   forgetNotices(command);
   showLeft();
@@ -189,7 +190,7 @@ const answerTitle = text => html('h2', { class: 'answer-title', tabindex: -1 }, 
 /** Whether what works, or has ended, was begun beside the test. */
 const isAskedBeside = () => byId('test-part').open && byId('test-part').contains(working.asker);
 
-/** Says the first sentence of an answer beside the test that asked for it, which stays in sight. Answers whether it did. */
+/** Says an answer's first sentence beside the test that asked for it. Answers whether it did. */
 function saidInBrief() {
   const said = byId('states').querySelector('[role=status] strong')?.textContent ?? '';
   const isBeside = isAskedBeside() && (working.asker === byId('test') || byId('commands').offsetTop < byId('told').offsetTop);
@@ -237,6 +238,7 @@ function backToRun() {
     putCommand('run');
     answerNow();
   }
+  if (document.activeElement === document.body) focusMachine(); // what had the focus is gone
   const { top } = byId('machines').getBoundingClientRect();
   if (!isLecture() && (top < byId('stepper').offsetHeight || top > TOO_LOW * innerHeight)) byId('run').scrollIntoView({ block: 'start' });
 }
@@ -273,7 +275,7 @@ function hasRoom(choices, depth) {
 /** Puts the focus on the machine's heading. */
 const focusMachine = () => document.querySelector('#machines h3')?.focus({ preventScroll: true });
 
-/** Runs choices that were found, with an atomic bus as then, and with one's own store buffers where the run has room in them. */
+/** Runs choices that were found, on an atomic bus, and in one's own store buffers where there is room. */
 function loadChoices(choices, found) {
   keepOwnRun();
   const before = JSON.parse(ownRun.kept.settings).find(([name]) => name === 'depth')?.[1] ?? SET_AT_FIRST.depth;

@@ -39,14 +39,14 @@ function drawBesideChoices(options) {
 function putBeside(text) {
   putDrive({ beside: JSON.parse(text) });
   beginDrive(firstHistory(), drive, drive.count);
-  if (drive.beside === ABREAST) scrollBy(0, byId('programs').getBoundingClientRect().top - (isStepperBelow() ? 0 : byId('stepper').offsetHeight));
+  if (drive.beside === ABREAST && lesson.told === null) scrollBy(0, byId('programs').getBoundingClientRect().top - (isStepperBelow() ? 0 : byId('stepper').offsetHeight));
 }
 
 /** Programs in one line; of each what `marks` says of an instruction's place is its class, and what `after` gives stands behind it. */
 const programLines = (programs, marks = () => '', after = () => []) => programs.map((program, core) => html('span', {}, html('strong', {}, `P${core}`), ' ',
   ...program.map((text, at) => html('code', { class: marks(core, at) }, text)), ...after(core)));
 
-/** Where machines stand abreast: programs and registers, once for all, with each next instruction and the last one marked. */
+/** Where machines stand abreast: programs and registers, once for all, with each next instruction and the last one marked; and what all machines share. */
 function showPrograms() {
   const history = firstHistory(), { count } = drive, isAbreast = drive.histories.length > 2;
   byId('programs').hidden = !isAbreast;
@@ -54,7 +54,8 @@ function showPrograms() {
   const [now, old] = [count, Math.max(0, count - 1)].map(each => history.machineAfter(each).cores.map(({ place }) => place));
   const marks = (core, at) => (at === now[core] ? 'next' : at === old[core] ? 'changed' : '');
   const { panels } = drawn.panels[0], registers = core => (panels[core].used.length === 0 ? [] : [panels[core].registers.element.cloneNode(true)]);
-  byId('programs').replaceChildren(...programLines(history.programs, marks, registers));
+  const { bus } = history.options, shared = `${bus} bus, ${plainMachineName(history.options)}${wordsSaid(history.options)}`;
+  byId('programs').replaceChildren(...programLines(history.programs, marks, registers), html('span', { class: 'faint' }, shared));
 }
 
 /** Whether two machines did the same in the first steps. Where they differ, the last ones tell it soonest. */

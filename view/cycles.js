@@ -35,7 +35,7 @@ const codesOf = (programs, rows, letters) => Array.from({ length: rows }, (_, ro
 /** The room beside the boxes of a lane, and beside the outer lanes (`margin`), for the longest letters; of narrow lanes, between two of them. */
 function sidesFor(edges, isNarrow, added) {
   const longest = ROUTES.letter * Math.max(0, ...edges.map((_, at) => lettersAt(edges, at, isNarrow).length)) + ROUTES.around + (isNarrow ? 6 : 4);
-  if (!isNarrow) return { side: Math.max(EVENTS.side, longest + ROUTES.around), margin: 0 };
+  if (!isNarrow) return { side: Math.max(EVENTS.side, Math.ceil(1.1 * longest)), margin: 0 };
   const side = Math.max(NARROW.side, Math.ceil(longest / 2)) + added;
   return { side, margin: Math.max(0, longest - side) };
 }
@@ -47,7 +47,7 @@ function wordsOfPrograms(programs, { margin, lane, side, tops, codes }) {
     ...program.map((_, place) => ({ x: margin + core * lane + side, y: tops[place] + 2, width, height: codes[place] - 4 }))]);
 }
 
-const HALL = { high: 0.43, most: 48 }; // of a lecture's window, and pixels between two rows
+const HALL = { high: 0.47, most: 120 }; // of a lecture's window, and pixels between two rows
 
 /** How much further apart rows stand where a lecture has room. */
 const roomBetween = (rows, width, height) => (isLecture() && rows > 1 ? Math.min(HALL.most, Math.max(0, width * HALL.high * innerHeight / (innerWidth - aroundPicture()) - height) / (rows - 1)) : 0);
@@ -61,7 +61,7 @@ function layOutEvents(programs, edges, isNarrow, added = 0) {
   const lane = (!isNarrow ? Math.max(EVENTS.least, widest * EVENTS.letter + 12) : isTight ? NARROW.tight : NARROW.least) + 2 * side;
   const letters = !isNarrow ? Infinity : isTight ? NARROW.few : NARROW.letters, codes = codesOf(programs, rows, letters);
   const isSecond = event => event.kind === 'LW' && events.some(other => other.kind === 'LR' && other.core === event.core && other.place === event.place);
-  const heightOf = heightsOfBoxes(edges), own = ({ core, place }) => events.filter(each => each.core === core && each.place === place);
+  const heightOf = heightsOfBoxes(edges, programs.length), own = ({ core, place }) => events.filter(each => each.core === core && each.place === place);
   const high = found => found.reduce((sum, event) => sum + heightOf(event) + EVENTS.gap, 0);
   const width = programs.length * lane + 2 * margin + 2, packed = topsOfRows(rows, row => Math.max(0, ...programs.map((_, core) => high(own({ core, place: row })))), channels, codes), apart = roomBetween(rows, width, packed.at(-1)), tops = packed.map((top, row) => top + apart * Math.min(row, rows - 1));
   const boxOf = event => ({
@@ -72,9 +72,9 @@ function layOutEvents(programs, edges, isNarrow, added = 0) {
   return { ...placed, words: wordsOfPrograms(programs, placed), boxes: new Map(events.map(event => [nameOfEvent(event.text), { event, ...boxOf(event) }])) };
 }
 
-/** The way of an edge, which goes under the events. */
-const drawWay = (way, edge, at) => svg('g', { class: `edge edge-${edge.relation}`, 'data-edge': at },
-  svg('title', {}, edgeSentence(edge)), svg('path', { d: way.d, 'marker-end': `url(#point-${edge.relation})` }));
+/** The way of an edge, which goes under the events, with a dot at its start. */
+const drawWay = ({ d, points: [[start, y], [next]] }, edge, at) => svg('g', { class: `edge edge-${edge.relation}`, 'data-edge': at },
+  svg('title', {}, edgeSentence(edge)), svg('path', { d, 'marker-end': `url(#point-${edge.relation})` }), svg('circle', { cx: start + 3 * Math.sign(next - start), cy: y, r: 3.5 }));
 
 /** The letters of an edge, which stand over all else. */
 const drawLetters = (chip, edges, at, isNarrow) => svg('g', { class: `edge edge-${edges[at].relation}`, 'data-letters': at }, svg('title', {}, edgeSentence(edges[at])),
@@ -158,10 +158,10 @@ function drawEdges(programs, edges, name) {
 const chipOf = (relation, isNarrow) => html('span', { class: `relation edge-${relation}` }, letterOf(relation, isNarrow));
 
 /** What the arrows mean, and the letters at them. */
-function relationList(edges, isNarrow, arrow) {
+function relationList(edges, isNarrow, arrow, words) {
   const used = usedRelations(edges);
   const item = relation => html('li', {}, chipOf(relation, isNarrow), ` ${meaningOf(relation, edges)}`);
-  return html('ul', { class: 'small relations', 'aria-label': 'How to read the picture' }, html('li', {}, `Arrow: ${arrow}must be before.`), ...used.map(item));
+  return html('ul', { class: 'small relations', 'aria-label': 'How to read the picture' }, html('li', {}, `An arrow means: ${arrow}. ${keyOfEdges(edges, words)}`), ...used.map(item));
 }
 
 /** What a condition names: the last loads into its registers, and the last writes to its locations. */
@@ -208,7 +208,7 @@ function drawExecution(programs, edges, few, panelOf, which = '') {
     target.ariaPressed = String(target.ariaPressed !== 'true');
     picked = pickedEdges(edges, picks);
     redraw();
-    putText(said, picked === null ? left : `Drawn are ${picked.length} of ${edges.length} arrows, those at what is picked.`);
+    putText(said, picked === null ? left : `Drawn are ${picked.length} of ${edges.length} arrows, those at what is picked. Program order that TSO keeps has none.`);
   });
   return html('div', { class: 'drawn-part' }, words, place);
 }
@@ -229,22 +229,22 @@ function pickedEdges(edges, buttons) {
 
 /** A cycle, edge by edge; or an execution: its cycle, then each other edge alone, and at last all. */
 class CyclePanel {
-  /** `end`: what the cycle comes to; `closed`: how many edges are the cycle; `arrow`: when arrows hold. */
-  constructor(programs, cycle, { end, name = `A cycle of ${cycle.length} edges`, closed = cycle.length, arrow = '' }) {
+  /** `end`: what the cycle comes to; `closed`: how many edges are the cycle; `arrow`: what one means; `beside`: what stands under the legend. */
+  constructor(programs, cycle, { end, name = `A cycle of ${cycle.length} edges`, closed = cycle.length, arrow = 'must come before', beside = [] }) {
     const picture = drawEdges(programs, cycle, name), isNarrow = picture.matches('.narrow');
     Object.assign(this, { cycle, closed, picture, isNarrow });
-    this.legend = relationList(cycle, isNarrow, arrow);
     this.place = html('div', { class: 'pictured-cycle' }, picture);
     this.sentences = html('ol', { class: 'edges', 'aria-label': 'The edges, one after the other' },
-      ...cycle.map((edge, at) => html('li', { tabindex: 0, 'data-arrow': at }, chipOf(edge.relation, isNarrow), ' ', ...unbroken(edgeSentence(edge)))));
-    this.end = html('p', {}, ...unbroken(end));
+      ...cycle.map((edge, at) => html('li', { tabindex: 0, 'data-arrow': at }, chipOf(edge.relation, isNarrow), ' ', edgeSentence(edge))));
+    this.legend = html('div', { class: 'how-read' }, relationList(cycle, isNarrow, arrow, this.sentences.textContent), ...beside);
+    this.end = html('p', {}, end);
     this.count = html('span', {});
     this.said = html('p', { class: 'edge-said', role: 'status' });
     this.buttons = Object.entries({ first: 'First arrow', back: 'Arrow back', next: 'Next arrow', all: 'All arrows' })
       .map(([name, text]) => html('button', { type: 'button', 'data-edges': name }, text));
     this.bar = html('div', { class: 'stepping' }, html('div', { class: 'buttons' }, ...this.buttons, this.count), this.said);
     this.told = html('div', { class: cycle.length > FEW_BESIDE ? 'told-edges many' : 'told-edges' }, html('div', {}, this.sentences, this.end), this.legend);
-    this.element = html('div', { class: isNarrow ? 'cycle slim' : `cycle ${picture.className}` }, html('p', { class: 'small faint key' }, keyOfEdges(cycle)), ...(cycle.length > 1 ? [this.bar] : []), this.place, this.told);
+    this.element = html('div', { class: isNarrow ? 'cycle slim' : `cycle ${picture.className}` }, ...(cycle.length > 1 ? [this.bar] : []), this.place, this.told);
     this.place.style = picture.style.cssText;
     new ResizeObserver(() => this.seeHeight()).observe(picture);
     for (const kind of ['pointerover', 'focusin']) this.element.addEventListener(kind, ({ target }) => this.point(target));
@@ -315,9 +315,9 @@ class CyclePanel {
   /** What the step says, where the sentences aren't beside the picture, and for readers of screens. */
   say(edge) {
     const isEnd = this.end.textContent !== '' && (this.shown === this.closed || this.shown === this.last);
-    const said = edge === undefined ? [this.shown > 0 ? 'All arrows that are drawn.' : isLecture() ? '' : 'Each arrow says what must be before what. “Next arrow” tells them one by one.'] : [`${arrowName(this.shown - 1)} `, chipOf(edge.relation, this.isNarrow), ' ', ...unbroken(edgeSentence(edge)),
-      html('span', { class: 'faint' }, edge.relation === 'fr' ? ' fr is “from read”.' : ` ${meaningOf(edge.relation, this.cycle)}`)];
-    this.said.replaceChildren(...said, ...(isEnd ? [' ', html('strong', {}, ...unbroken(this.end.textContent))] : []));
+    const said = edge === undefined ? [this.shown > 0 ? 'All arrows that are drawn.' : isLecture() ? '' : `${this.cycle.some(({ relation }) => relation === 'unkept') ? 'Solid arrows say what must come before what; dashed ones TSO doesn\'t keep.' : 'Each arrow says what must come before what.'} “Next arrow” tells them one by one.`] : [`${arrowName(this.shown - 1)} `, chipOf(edge.relation, this.isNarrow), ' ', edgeSentence(edge),
+      html('span', { class: 'faint' }, { fr: ' fr is “from read”.', unkept: ' po is “program order”.' }[edge.relation] ?? ` ${meaningOf(edge.relation, this.cycle)}`)];
+    this.said.replaceChildren(...said, ...(isEnd ? [' ', html('strong', {}, this.end.textContent)] : []));
   }
 
   show(step) {

@@ -50,6 +50,7 @@ function beginDrive(history, { test, given }, count) {
 function nameStage(machines, cores) {
   const isFew = cores <= FEW_CORES, names = { lone: machines === 1 && isFew, four: machines > 2 && isFew, pair: cores === 2, three: cores > 2, seven: cores > 6 };
   for (const [name, is] of Object.entries(names)) byId('machines').parentElement.classList.toggle(name, is);
+  byId('run').classList.toggle('of-four', machines > 2);
 }
 
 function putPanels(panels) {

@@ -148,7 +148,7 @@ function showEnd(history) {
   byId('comparison').hidden = run === null;
   byId('saves').querySelector('[data-save=line]').disabled = run === null;
   if (run === null) return;
-  byId('left').replaceChildren(...finalTables(run, REGISTERS.filter(name => drawn.panels[0].panels.some(({ used }) => used.includes(name)))));
+  byId('left').replaceChildren(...finalTables(run, drawn.panels[0].panels.map(({ used }) => used), drive.histories.length > 2 ? `, ${history.options.protocol.toUpperCase()}` : ''));
   if (byId('order-part').open) showOrder();
   compareNow();
 }
@@ -157,7 +157,7 @@ function showEnd(history) {
 function tellInWords(element, { proposition, programs }, { condition }) {
   const wanted = condition && wantedWords(proposition);
   if (!wanted) return;
-  const [said] = element.textContent.split('Condition: '), words = loadsSentence(wanted, programs).replace('b', 'B') || wantedSentence(wanted);
+  const [said] = element.textContent.split('Condition: '), words = loadsSentence(wanted, programs).replace(/^b/, 'B') || wantedSentence(wanted);
   MEANINGS.written = `Written ${condition.kind} (${proposition}).`;
   element.replaceChildren(said, withMeaning({ tabindex: -1 }, 'written', words), `: ${condition.holds}.`);
 }

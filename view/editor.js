@@ -150,6 +150,7 @@ function cellAtFault(line, hint) {
 /** Underlines the cell at fault in the band of its line. */
 function markCell(cell) {
   const band = byId('test-band');
+  band.dataset.from = cell?.from ?? 0;
   band.replaceChildren(...(cell === null ? [] : [html('span', {})]));
   if (cell === null) return;
   const [mark] = band.children;
@@ -178,10 +179,10 @@ function plainRefusal(place, cell, line, hint) {
   return `${place.field === 'given' ? 'Order, line' : 'Line'} ${place.line}${cell === null ? '' : `, P${cell.core}`}${/^ ?needs/.test(why) ? '' : ':'} ${why.trim().replace(/\bas 0:E/, `as ${cell?.core ?? 0}:E`)}.`;
 }
 
-/** Puts the caret at the line that is marked, and brings it into sight. */
+/** Puts the caret where a line is marked, and brings it into sight. */
 function focusRefusal() {
-  const field = byId(byId('given-band').hidden ? 'test' : 'given'), band = byId(field.id + '-band'), { line } = band.dataset;
-  const at = field.value.split('\n', line - 1).join('\n').length + (line > 1);
+  const field = byId(byId('given-band').hidden ? 'test' : 'given'), band = byId(field.id + '-band'), { line, from = 0 } = band.dataset;
+  const at = field.value.split('\n', line - 1).join('\n').length + (line > 1) + Number(from);
   field.setSelectionRange(at, at);
   field.focus({ preventScroll: true });
   for (const part of [byId('told'), band]) part.scrollIntoView({ block: 'nearest' });
@@ -191,44 +192,56 @@ function focusRefusal() {
 const CELL = /^'?(.+?)'?(?=:| is).*(?:: write|one step:) ((?:LOCK )?[A-Z]+(?: [^\s;]+)?)(; leave out the ;.*)?\s*$/, SIGNS = { '&': '/\\', a: '/\\', '|': '\\/', o: '\\/', '=': '=' };
 const REPAIRS = [
   [/^(\w+) (?:is no register|has 64 bits).*write (\w+)\s*$/, ([, word, other]) => [new RegExp(`\\b${word}\\b`, 'gi'), other]],
-  [/^([\w ]+?)(?: is no instruction| isn't read)?: write (~?exists|forall)\s*$/, ([, word, other]) => [new RegExp(`\\b${word}\\b`), other]],
+  [/^([\w ]+?)(?: is no instruction| isn't read)?: write (~?exists|forall|[A-Z]+)\s*$/, ([, word, other]) => [new RegExp(`\\b${word}\\b`, 'gi'), other]],
   [/^(; stands behind )?fence\b/i, () => [/(?<=(^|\|)\s*)fence(\s*;(?=.*[|;]))?(?=\s*([|;]|$))/gi, 'MFENCE']],
+  [/^no comma/, () => [/(?<=(?:^|\|)\s*)((?!LOCK)[A-Z]+ +[^\s,|]+) +([^\s,|;]+)(?=\s*(?:[|;]|$))/gi, '$1,$2']],
   [/^; stands twice/, () => [/;(?:\s*;)+/, ';']],
   [/^no ; ends th(is|e) row/, () => [/\s*$/, ' ;']],
   [/^('[&|=]'|and|or): in a condition/, () => [/&&?|\|\|?|==|\b(?:and|or)\b/g, ([first]) => SIGNS[first]]],
 ];
-const LISTING = /^(hint: line \d+: )?(instructions alone|this is an assembler)/;
+const LISTING = /^(hint: line \d+: )?(instructions alone|this is an assembler|this is a disassembly)/;
+const ADDRESS = /^\s*[\da-f]+:\s*(?:[\da-f]{2}(?:\s+|$))*/; // and bytes
+const PLACE = /-?\w+(?=\(%rip\))|\[rip ?[+-] ?\w+\]/;
 const MOST_REPAIRED = 256; // as many cells as a test has
 const MOST_SAID = 4; // kinds of changes
 
-/** The first line of a listing that can't stand in a test, and what is said of all such; null where there is none. */
+/** A listing; a disassembly without addresses and bytes, with the names of its comments and relocations. */
+const plainListing = (text, hint) => (!hint.includes('disassembly') ? text : text.split('\n').map((line, at, lines) => {
+  const [, name] = /<(\w+)(?:@[\w.@]*)?>\s*$/.exec(line) ?? /R_X86\w+\s+(\w+)/.exec(lines.slice(at + 1, at + 3)) ?? [];
+  const plain = line.replace(ADDRESS, '').replace(/\b0x[\da-f]+/g, Number);
+  return name === undefined ? plain : plain.replace(PLACE, place => name + (place.startsWith('[') ? '[rip]' : ''));
+}).join('\n'));
+
+/** The first line of a listing that can't stand in a test, and what is said of all such, or null. */
 function barredIn(listing) {
   const all = [...listing.matchAll(/^[ \t]*((?:j|loop|call|set)\w*|(?:test|cmp)[bwlq]?)(?!\S)/gim)].map(({ 1: word, index }) => [countLines(listing.slice(0, index)), word]);
   const said = listed(all.slice(0, MOST_SAID).map(([line, word]) => `line ${line} (${word})`)).slice(1);
-  return all[0] ? { field: 'test', line: all[0][0], said: `L${said}: there are no jumps, compares or calls here. Keep the one way that is taken: without such lines this can be written as a test.` } : null;
+  const nameless = listing.search(/\b\d+[([]%?rip|\[rip ?[+-] ?\d/);
+  if (all.length > 0) return { field: 'test', line: all[0][0], said: `L${said}: there are no jumps, compares or calls here. Keep what the cores do alone, by the one way that is taken: without such lines this can be written as a test.` };
+  return nameless < 0 ? null : { field: 'test', line: countLines(listing.slice(0, nameless)), said: 'This listing has no names of locations: paste what gcc -S writes, or objdump -dr of an object file.' };
 }
 
-/** A listing as a test: what follows each label is a core's. Null where it jumps, compares or calls, or isn't plain. */
+/** A listing as a test: what follows each label is a core's. Null where it can't be one. */
 function listingAsTest(listing) {
   const written = listing.replace(/\[rip ?\+ ?(\w+)\]/gi, '$1[rip]'), places = /\b(?:r\d+|[re]?(?:[a-d]x|[sd]i|[sb]p)|[a-d][lh])(?=\(%rip\)|\[rip\]|:\s+\.(?:long|int|quad))/gi; // named as registers are
   const other = name => (written.includes(`_${name}`) ? other(`_${name}`) : `_${name}`), text = written.replace(places, other);
-  const cores = [[]], left = /^$|^\.|^(ret|endbr64|nop|leave|push|pop)|^mov.*(bp\W.*sp|sp\W.*bp)/i;
+  const cores = [[]], left = /^$|^\.|^(ret|endbr64|nop|leave|push|pop|R_X86|cs nop|data16|hlt|xchg %?ax, ?%?ax)|file format|^mov.*(bp\W.*sp|sp\W.*bp)/i;
   if (barredIn(text)) return null;
   for (const line of text.split('\n').map(each => each.replace(/(#|;|\/\/).*/, '').replace(/\s+/g, ' ').trim()).filter(each => !left.test(each))) {
     if (/:$/.test(line)) cores.push([]);
     else if (cores.at(-1).push(line) && !/^[a-z]/i.test(line)) return null;
   }
   const programs = cores.filter(core => core.length > 0), most = Math.max(...programs.map(core => core.length));
-  const start = [...text.matchAll(/^(\w+):\s+\.(?:long|int|quad)\s+([1-9]\d*)\s*$/gm)].map(([, name, word]) => ` ${name}=${word};`).join('');
+  const start = [...text.matchAll(/^(\w+):\s+\.(?:long|int|quad)\s+([1-9]\d*)\s*(?:#.*)?$/gm)].map(([, name, word]) => ` ${name}=${word};`).join('');
   const row = at => ` ${programs.map((core, number) => (at < 0 ? `P${number}` : core[at] ?? '')).join(' | ')} ;\n`;
-  return most > 0 ? { text: `X86 pasted\n{${start} }\n${Array.from({ length: most + 1 }, (_, at) => row(at - 1)).join('')}`, count: 1, isOther: true, said: `a test of ${programs.length} core${programs.length === 1 ? '' : 's'}${[...new Set(written.match(places))].map(name => `, location ${name} became ${other(name)}`).join('')}` } : null;
+  return most > 0 ? { text: `X86 pasted\n{${start} }\n${Array.from({ length: most + 1 }, (_, at) => row(at - 1)).join('')}`, isOther: true, said: `a test of ${programs.length} core${programs.length === 1 ? '' : 's'}${[...new Set(written.match(places))].map(name => `, location ${name} became ${other(name)}`).join('')}` } : null;
 }
 
 /** A test of X86_64 as one of X86, without types. */
 function narrowed(test) {
   const items = /\bu?int(32|64)_t\s+([\w:]+\s*;[ \t]*\n?|(?=[\w:]+\s*=))/g, names = /\br([a-d]x|[sd]i)\b/gi;
   const text = test.replace('X86_64', 'X86').replace(items, '').replace(names, (all, rest) => `E${rest.toUpperCase()}`);
-  return { text, count: 1, isOther: true, said: 'X86_64 became X86, with registers of 32 bits' };
+  return { text, isOther: true, said: 'X86_64 became X86, with registers of 32 bits' };
 }
 
 const PLAIN_REGISTERS = ['EAX', 'EBX', 'ECX', 'EDX', 'ESI', 'EDI'];
@@ -241,24 +254,23 @@ function renamed(lines, at, name) {
   const write = become => lines.map((line, row) => (row > first && row <= last ? line.split('|').map((part, column) => (column === core ? become(part) : part)).join('|') : line.replace(places, become))).join('\n');
   write(part => { changed += part; return part; });
   const free = PLAIN_REGISTERS.find(each => !new RegExp(`\\b[ER]?${each.slice(1)}\\b`, 'i').test(changed));
-  return free && core >= 0 ? { text: write(part => part.replace(named, free)), count: changed.match(named).length, isOther: true, said: `P${core}: ${name} became ${free}` } : null;
+  return free && core >= 0 ? { text: write(part => part.replace(named, free)), isOther: true, said: `P${core}: ${name} became ${free}` } : null;
 }
 
-/** A test with what its hint says, in how many places, and what they became; else null. */
+/** A test with what its hint says, and what became of what; else null. */
 function repaired(test, hint = '') {
   const [, number, said = ''] = /^hint: line (\d+): (.*)/.exec(hint) ?? [], at = number - (said.includes('cores in the line before') ? 2 : 1), lines = test.split('\n'), line = lines[at] ?? '';
-  if (LISTING.test(said)) return listingAsTest(test);
+  if (LISTING.test(said)) return listingAsTest(plainListing(test, said));
   if (/^X86_64 tests|X86 in place of X86_64/.test(said)) return narrowed(test);
   const [, foreign] = / is for (\w+): take/.exec(said) ?? [];
   if (foreign) return renamed(lines, at, foreign);
   const [, cell, other, isEnded] = CELL.exec(inFull(said, line)) ?? [], cells = cellsOf(line).filter(({ text }) => text === cell), [pattern, change] = REPAIRS.find(each => each[0].test(said)) ?? [];
   const inCell = part => (plainCell(part) === cell ? part.replace(part.trim(), () => other) : part), [from, to] = cells.length > 0 || !pattern ? [/[^|;]+/g, inCell] : change(pattern.exec(said));
-  const count = cells.length || (pattern && line.match(from)?.length);
-  if (!count) return null;
+  if (cells.length === 0 && !(pattern && from.test(line))) return null;
   const parts = cells.length > 0 ? [cell] : [...new Set(line.match(from))], isOther = !parts[0].toUpperCase().startsWith(other?.split(' ')[0]);
   const become = cells.length > 0 ? () => other : to, became = part => (part.trim() === '' ? '; was added' : `${part.replace(/ +/g, ' ')} became ${typeof become === 'string' ? become : part.replace(from, become)}`);
   lines[at] = (isEnded ? line.replace(/;(?=.*[|;])/, '') : line).replace(from, to);
-  return { text: lines.join('\n'), count, isOther, line: at + 1, said: parts.map(became).join(', ') };
+  return { text: lines.join('\n'), isOther, line: at + 1, said: parts.map(became).join(', ') };
 }
 
 /** What places became, each kind once, in the order of lines: of many those that have another instruction now. */
@@ -276,6 +288,9 @@ function aligned(text) {
   if (first < 0 || rows.some((line, at) => /\(\*|;.*;|^[^;]*$/.test(line) || cells[at].length !== widths.length)) return text;
   return [...lines.slice(0, first), ...cells.map(row => ` ${row.map((cell, core) => cell.padEnd(widths[core])).join(' | ')} ;`), ...lines.slice(last + 1)].join('\n');
 }
+
+/** Programs in capitals, but for locations, which stand in brackets. */
+const inCapitals = text => text.replace(/^.*;$/gm, row => row.replace(/(?<!\[)\b\w+|, /g, part => part.trim().toUpperCase()));
 
 /** A condition over what a test loads, each 0; empty where it loads nothing. */
 function conditionOver(test) {
@@ -295,12 +310,12 @@ function writeRepairs() {
     changes.push(found);
     ({ hint, status } = asked(options, text));
   }
-  const askedFor = isListing && status !== Tso.STATUS.refused ? conditionOver(text) : '';
+  const isTest = isListing && status !== Tso.STATUS.refused, askedFor = isTest ? conditionOver(text) : '';
   undoing.field = null;
   field.focus();
   field.select();
-  document.execCommand('insertText', false, aligned(text) + askedFor); // which the field can undo, too
-  const count = changes.reduce((sum, each) => sum + each.count, 0), said = `Changed: ${count} place${count === 1 ? '' : 's'}: ${changesSaid(changes)}${askedFor && 'Write into exists what you ask for. '}`, isRefused = bench.answer?.status === Tso.STATUS.refused;
+  document.execCommand('insertText', false, aligned(isTest ? inCapitals(text) : text) + askedFor); // which the field can undo, too
+  const said = `Written: ${changesSaid(changes)}${askedFor && 'Write into exists what you ask for. '}`, isRefused = bench.answer?.status === Tso.STATUS.refused;
   if (isRefused) focusRefusal();
   else notice.said = said + noticeOf(inputOf('sweep')); // while the test is the same
   putText(document.querySelector('.noticed'), isRefused ? said : notice.said);
@@ -312,7 +327,7 @@ const withCode = said => said === '' ? [] : said.split(/(\B'[^']+'(?=:| )|(?:\bL
 
 /** Marks what is refused, or nothing, and says it in plain words. */
 function markRefusal({ text: line, hint }) {
-  const test = byId('test').value, place = (LISTING.test(hint) && barredIn(test)) || placeOfRefusal(line, hint), written = test.split('\n')[place?.line - 1] ?? '';
+  const test = byId('test').value, place = (LISTING.test(hint) && barredIn(plainListing(test, hint))) || placeOfRefusal(line, hint), written = test.split('\n')[place?.line - 1] ?? '';
   const said = inFull(hint ?? '', written), cell = place?.field === 'test' ? cellAtFault(written, said) : null;
   const before = place?.field === 'test' ? document.querySelector('.writing .noticed') : byId('given-part');
   if (before.nextElementSibling !== byId('told')) before.after(byId('told')); // next by Tab

@@ -29,6 +29,9 @@ const html = (tag, attributes, ...children) => make('http://www.w3.org/1999/xhtm
 const svg = (tag, attributes, ...children) => make('http://www.w3.org/2000/svg', tag, attributes, children);
 const byId = id => document.getElementById(id);
 
+/** Has each of these do something when it is pressed, by its id. */
+const onPress = acts => Object.entries(acts).forEach(([id, act]) => byId(id).addEventListener('click', act));
+
 /** Puts texts into a list, an item for each. The items before the first that differs stay. */
 function putItems(list, texts) {
   let same = 0;

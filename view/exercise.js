@@ -5,8 +5,8 @@
 const MOST_ASKED = 400; // characters of the question
 
 /** The exercise that was opened: its test, what is asked, what the reader thinks, `can` or `cannot`, what the test itself asks, and what an answer
- * said of that thought; null where it isn't known yet. */
-const exercise = { test: null, asked: '', thought: null, question: null, judged: null };
+ * said of that thought; null where it isn't known yet; and whether an answer was seen, or a run did it (`isSolved`). */
+const exercise = { test: null, asked: '', thought: null, question: null, judged: null, isSolved: false };
 
 const isExercise = () => exercise.test !== null && exercise.test === byId('test').value && lesson.told === null;
 const isUnanswered = () => isExercise() && exercise.thought === null;
@@ -15,13 +15,13 @@ function putExercise(told) {
   const asked = told.get('exercise'), thought = told.get('thought'), test = asked === null ? null : told.get('test');
   const isSame = test === exercise.test && thought === exercise.thought;
   Object.assign(exercise, { test, asked: (asked ?? '').slice(0, MOST_ASKED), thought: ['can', 'cannot'].includes(thought) ? thought : null, question: null });
-  if (!isSame) exercise.judged = null;
+  if (!isSame) Object.assign(exercise, { judged: null, isSolved: false });
 }
 
 const exerciseToKeep = () => (isExercise() ? [['exercise', exercise.asked], ...(exercise.thought === null ? [] : [['thought', exercise.thought]])] : []);
 
-/** Shows what is asked, with the two answers; and hides the ways to the answer until one is given. */
-function showExercise() {
+/** Shows what is asked, with the two answers, what the reader said and what came of a try (`after`); and hides the ways to the answer until one is given. */
+function showExercise(after = '') {
   const isOn = isExercise(), { asked, thought } = exercise;
   document.documentElement.classList.toggle('unanswered', isUnanswered());
   byId('exercise').hidden = !isOn;
@@ -31,8 +31,8 @@ function showExercise() {
     putOff(button, thought !== null); // the one that was pressed keeps the focus
     button.setAttribute('aria-pressed', String(button.dataset.thought === thought));
   }
-  const answered = exercise.judged ?? `You said: ${thoughtSaid()}. “Why can or can't it be?” tells whether that is so.`;
-  putText(byId('exercise-thought'), thought === null ? 'Try it below, then say what you think.' : answered);
+  const [said, open] = thought === null ? ['', 'Try it below, then say what you think.'] : [exercise.judged ?? `You said: ${thoughtSaid()}.`, exercise.judged ? '' : ' “Why can or can\'t it be?” tells whether that is so.'];
+  putText(byId('exercise-thought'), (said + (after || open)).trim());
 }
 
 /** Puts the answers behind the question; where that is the teacher's own, behind the condition, which they answer. */
@@ -55,7 +55,9 @@ const isAskedTwice = () => isExercise() && exercise.asked === (exercise.question
 
 /** On top of an answer: what the reader had said, and whether it is so. A claim of each run asks another thing. */
 function judgeThought(can) {
-  if (!isExercise() || isUnanswered() || quantifierOf(exercise.test) === 'forall') return [];
+  if (!isExercise() || isUnanswered()) return [];
+  exercise.isSolved = true;
+  if (quantifierOf(exercise.test) === 'forall') return [];
   const isRight = can === (exercise.thought === 'can');
   exercise.judged = isRight ? `You said ${thoughtSaid()}, and so it is.` : `You said: ${thoughtSaid()}. ${can ? 'It can' : 'It can\'t'}.`;
   return [html('strong', { class: isRight ? 'judged' : 'judged wrong' }, exercise.judged), ' '];
@@ -110,7 +112,7 @@ function saveExercise() {
 
 function saveExercises() {
   const names = new Map(taught.list.map(entry => [exerciseAt(entry.address), plainName(entry)])), list = [...names].map(([address, name]) => ({ name, address }));
-  return saveWhole(`${list.length}-exercises.html`, () => wholePage(list[0].address, JSON.stringify({ lessons: taught.lessons, list })));
+  return saveWhole(listFile('exercises'), () => wholePage(list[0].address, JSON.stringify({ lessons: taught.lessons, list })));
 }
 
 Object.assign(SAVES, { exercise: beginExercise, exercises: saveExercises });

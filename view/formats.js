@@ -1,6 +1,6 @@
 'use strict';
 
-// The answer as it is printed, and as JSON. Of a search the page has asked for JSON: the other form is asked for when somebody wants it.
+// The answer as it is printed, and as JSON. A search was asked for JSON: the other form is asked for when somebody wants it.
 
 /** The commands that answer in both forms. */
 const IN_BOTH = ['run', 'outcomes', 'counts', 'why'];
@@ -57,6 +57,7 @@ async function showFormat() {
   if (formats.texts !== texts || formatNow() !== name) return;
   byId('report').textContent = laidOut(texts[name], name);
   putReportKey(texts[name]);
+  putText(byId('report-note'), byId('states').querySelector('.ways-said')?.textContent ?? '');
 }
 
 /** What stands in the field of the report, as a file. */
@@ -65,7 +66,7 @@ function saveFormat() {
   saveText(fileName(testName(), isJson ? '.json' : '.txt'), textShown(), isJson ? 'application/json' : 'text/plain');
 }
 
-/** Copies what stands in the field of the report. */
+/** Copies the report's field. */
 async function copyReport() {
   try {
     await navigator.clipboard.writeText(textShown());

@@ -27,11 +27,12 @@ const termsPart = places => (!isLongEnd(places) ? [] : [html('details', { class:
 
 const placeWords = ({ core, register, location }) => (register === undefined ? location : `P${core}'s ${register}`);
 
-/** The same of two loads, where a test has no others; else empty. */
+/** The same of two loads, where a test has no others; else empty. Locked instructions load too: beside them the two are named. */
 function loadsSentence(places, programs) {
-  const loads = programs.flatMap((program, core) => program.flatMap(text => /^MOV (\w+),\[/.exec(text)?.[1] ?? []).map(name => core + name)), [one, other] = places;
-  const isSo = loads.length === 2 && one.word === other?.word && `${loads.sort()}` === `${places.map(({ core, register }) => core + register).sort()}`;
-  return isSo ? `both loads read ${one.word}` : '';
+  const texts = programs.flat(), [one, other] = places, loads = places.map(({ core, register }) => programs[core]?.find(text => text.startsWith(`MOV ${register},[`)));
+  if (places.length !== 2 || one.word !== other.word || loads.includes(undefined) || texts.filter(text => /^MOV \w+,\[/.test(text)).length !== 2) return '';
+  const names = loads.map((text, at) => `P${places[at].core}'s load of ${text.split(/[[\]]/)[1]}`);
+  return `${texts.some(text => /^(LOCK|XCHG)/.test(text)) ? names.join(' and ') : 'both loads'} read ${one.word}`;
 }
 
 /** The quantifier of a test's condition, or null. */
@@ -115,17 +116,22 @@ function doneWord(history, count) {
 }
 
 const FEW_CHOICES = 20; // to make by hand
+const SHORT_TASK = 30; // letters: what is said after it stands in one line with it in a wide window
 
 /** What is said after a try. */
-function afterTry(history, count, met, quantifier) {
+function afterTry(history, count, met, quantifier, can) {
   if (met === null) return isRefuted() ? '' : lostSentence(history, count, quantifier);
-  if (!met) return ` ${missedSentence(history, count, quantifier)}${isRefuted() ? '' : ' Go back, or make other choices.'}`;
-  const claim = quantifier === 'exists' ? '' : 'So the claim of the test is wrong.';
-  const passes = passesOf(history.order.slice(0, history.momentAfter(count).rows), '').filter(sentence => sentence !== '');
-  const more = passes.splice(FEW_PASSES).length, rest = more > 0 ? `And ${more} more.` : '';
+  if (!met) return ` ${missedSentence(history, count, quantifier)}${can === true ? ' Go back, or make other choices.' : ''}`;
   const isOfAnswer = isAnswersRun(), done = isOfAnswer ? '' : doneWord(history, count);
-  const then = isOfAnswer && history.steps.length <= FEW_CHOICES ? ' Now make it yourself.' : '';
-  return [done, claim, ...passes, rest].filter(words => words !== '').map(words => ` ${words}`).join('') + then;
+  const then = isOfAnswer && history.steps.length <= FEW_CHOICES ? 'Now make it yourself.' : '';
+  return [done, quantifier === 'exists' ? '' : 'So the claim of the test is wrong.', then].map(words => words && ` ${words}`).join('');
+}
+
+/** What loads passed in a try that was met. A wide window has it beside the picture alone. */
+function moreOfTry(history, count, met) {
+  if (!met) return '';
+  const passes = passesOf(history.order.slice(0, history.momentAfter(count).rows), '').filter(sentence => sentence !== ''), more = passes.splice(FEW_PASSES).length;
+  return passes.map(words => ` ${words}`).join('') + (more > 0 ? ` And ${more} more.` : '');
 }
 
 /** The task in words: done, or known to be impossible since an answer said so, or open. */
@@ -137,32 +143,37 @@ function taskWords(quantifier, proposition, { isDone, isShown }, can) {
 
 const lectured = { key: null }; // of which test the question stands there
 
-/** What a lecture asks, in short, over its machine. */
+/** What a lecture asks, in short, over its machine: the name that somebody gave the entry of the list, or what the test asks. */
 function showQuestion(asked = drive.test) {
   if (!isLecture()) return;
-  const test = isExercise() || lesson.told !== null ? '' : asked, key = `${test}${byId('run').className}`;
-  if (lectured.key !== key) putText(byId('asked-line'), test === '' ? '' : proposedQuestion(test).replace(/^.*: w/, 'W'));
+  const own = isOfEntry(false) ? ownNameOf(taught.list[playlist.at]) : '';
+  const test = isExercise() || lesson.told !== null ? '' : asked, key = `${test}${byId('run').className}${own}`;
+  if (lectured.key !== key) putText(byId('asked-line'), test === '' ? '' : own || proposedQuestion(test).replace(/^.*: w/, 'W'));
   lectured.key = key;
 }
 
-/** Shows the task, and when it is met why, by what the loads passed. `run` is the run, where it has ended. After a try that missed what
- * may be impossible the page offers to say why. */
+/** Shows the task, and what came of a try, which stands at the answers in an exercise. `run` is the run, where it has ended. After a try that missed
+ * what may be impossible the page offers to say why. */
 function showTask(history, count, run) {
-  showExercise();
   showQuestion();
-  const { proposition } = history, quantifier = quantifierOf(drive.test), hasTask = proposition !== null && quantifier !== null && lesson.told === null;
-  byId('task').hidden = !hasTask;
-  placeAnswers(hasTask && isExercise() && !isAskedTwice());
-  if (!hasTask) return;
+  const { proposition } = history, quantifier = quantifierOf(drive.test), hasTask = proposition !== null && quantifier !== null && lesson.told === null, isAsked = isAskedTwice();
+  byId('task').hidden = !hasTask || isAsked;
+  placeAnswers(hasTask && isExercise() && !isAsked);
+  if (!hasTask) return showExercise();
   askPossibleSoon();
-  const can = isUnanswered() ? null : canBe(), met = isMet(history, count, run?.condition, quantifier);
-  const isDone = met === true && !isAnswersRun(), isAsked = !isDone && isAskedTwice(), after = afterTry(history, count, met, quantifier);
-  byId('task').hidden = isAsked && after === '';
-  byId('task').classList.toggle('met', isDone);
-  byId('task').classList.toggle('asked', met !== true && possible.isAsked && !isUnanswered()); // so that its title doesn't change before one's eyes
+  const met = isMet(history, count, run?.condition, quantifier), isDone = met === true && !isAnswersRun();
+  if (isDone && isExercise()) exercise.isSolved = true;
+  if (isDone) judgeThought(true);
+  const isOpen = isExercise() && !exercise.isSolved, can = isOpen ? null : canBe(), after = afterTry(history, count, met, quantifier, can), { classList } = byId('task');
+  classList.toggle('met', isDone);
+  byId('exercise').classList.toggle('met', isDone);
+  classList.toggle('short', !isExercise() && (CLAIMS[quantifier] + taskSentence(testName(), proposition, quantifier, history.programs)).length <= SHORT_TASK);
+  classList.toggle('asked', met !== true && possible.isAsked && !isOpen); // so that its title doesn't change before one's eyes
   putText(byId('task-said'), isAsked ? '' : taskWords(quantifier, proposition, { isDone, isShown: met === true && !isDone }, met ? true : can));
   const offers = (isDone || (met === false && can !== true)) && !isUnanswered() && document.querySelector('#commands [value=why]') !== null;
-  putText(byId('task-after'), after);
+  showExercise(after);
+  putText(byId('task-after'), isExercise() ? '' : after);
+  putText(byId('task-more'), isExercise() ? '' : moreOfTry(history, count, met));
   byId('task-why').hidden = !offers;
   putText(byId('task-why'), !offers ? '' : isDone ? 'Why can it be?' : 'Why can or can\'t it be?');
   byId('task-why').classList.toggle('quiet', isDone);

@@ -43,8 +43,8 @@ function mostRows(programs) {
 /** What the strip says of a core: the stores that wait, the oldest first. */
 function drawStores(layout, core, text) {
   const { left, lane, inner } = layout, room = lane - inner - 8, place = { x: left(core) + inner + 4, 'text-anchor': 'start' };
-  const said = NOT_YET.find(words => words.length * NOTE_FONT * GLYPH <= room) ?? NOT_YET[1];
-  return svg('g', { class: 'not-yet' }, fittingText({ class: 'faint', ...place, y: 13 }, NOTE_FONT, said, room), fittingText({ ...place, y: 33 }, 14, text, room));
+  const font = noteFont(layout), said = NOT_YET.find(words => words.length * font * GLYPH <= room) ?? NOT_YET[1];
+  return svg('g', { class: 'not-yet' }, fittingText({ class: 'faint', ...place, y: 15 }, font, said, room), fittingText({ ...place, y: 35 }, font + 2, text, room));
 }
 
 /** The load part of a locked instruction whose store part is to come, in the strip. */

@@ -83,9 +83,9 @@ function movedSentence(core, instruction, registers, moved) {
   return `P${core}'s ${instruction} set ${moved.replace(' ', ' and ')}${computedWords(instruction, old, registers)}.`;
 }
 
-/** What was committed, in one sentence, by an instruction with these registers before it. Where no caches are shown (`isPlain`), a word that
+/** What was committed, in one sentence, by an instruction of a core as it was before it. Where no caches are shown (`isPlain`), a word that
  * isn't in its own buffer is in memory. */
-function committedSentence(step, isPlain, instruction, registers) {
+function committedSentence(step, isPlain, instruction, { registers, buffer }) {
   const { choice, entries } = step, supplied = isPlain && step.supplied !== 'buffer' ? step.supplied && 'memory' : step.supplied;
   const from = supplied ? ` from ${sourceName(supplied)}` : '';
   const [first, second] = entries.map(entryOf), core = coreOfChoice(choice), is = `${first.location}=${first.value}`;
@@ -94,7 +94,7 @@ function committedSentence(step, isPlain, instruction, registers) {
     case 'R': return `P${core} read ${is}${from}.`;
     case 'LW': return lockedSentence(core, instruction, registers, null, first, from);
     case 'LR': return isComparing(instruction) ? comparedSentence(core, first, second, registers.EAX, from) : lockedSentence(core, instruction, registers, first, second, from);
-    default: return `${isDrain(choice) ? `P${core}'s oldest store ${is} left its buffer` : `P${core} stored ${is}`}: ${seenWords(step, core, first.location, isPlain)}`;
+    default: return `${isDrain(choice) ? `P${core}'s ${buffer.length > 1 ? 'oldest ' : ''}store ${is} left its buffer` : `P${core} stored ${is}`}: ${seenWords(step, core, first.location, isPlain)}`;
   }
 }
 
@@ -104,7 +104,7 @@ function stepSentences(step, before, programs, isPlain = false) {
   const instruction = programs[core][place] ?? '';
   const said = {
     buffered: () => `P${core}'s store ${step.entries[0].replace(/^\S+ W /, '')} waits in its store buffer.`,
-    committed: () => committedSentence(step, isPlain, instruction, registers),
+    committed: () => committedSentence(step, isPlain, instruction, before.cores[core]),
     moved: () => movedSentence(core, instruction, registers, step.moved),
     asked: () => `P${core} asked for the bus, and holds it now.${step.supplied ? ` The word is in ${sourceName(step.supplied)}.` : ''}`,
     stalled: () => `Stalled (${step.stall}), and nothing changed: ${STALLS[step.stall](core, before)}`,

@@ -13,7 +13,7 @@ const BROKEN = {
 
 const NAMED_ENTRY = /P\d+:\d+ (?:F|(?:R|W|LR|LW) \S+)/g;
 
-/** Of the answer to `check` the letter, the entries that it names and the value that was due; null where the order isn't refused. */
+/** What `check` answers: letter, named entries, the value that was due; null where the order isn't refused. */
 function readCheck(text) {
   const found = /^Check invalid (C\d) (?:(missing|extra|twice) )?(.*)$/m.exec(text);
   if (!found) return null;
@@ -32,7 +32,7 @@ function checkSentence({ letter, fault, named: [first, second], due }) {
   return `TSO doesn't allow this order: ${said[letter]()}. The axiom that it breaks (${letter}): ${BROKEN[letter]}.`;
 }
 
-/** An order that was refused: a sentence, and the order as a list in which the entries that are named are marked. */
+/** An order that was refused: a sentence, and the order with the named entries marked. */
 function refusedOrder(check, order) {
   const entries = order.split('\n').map(line => line.trim()).filter(line => /^P\d+:\d+ /.test(line));
   const items = entries.map(entry => (check.named.includes(entry) ? html('li', { class: 'named' }, html('mark', {}, entry), ' ◀ this one') : html('li', {}, entry)));

@@ -20,7 +20,7 @@ function putLecture(isOn) {
   if (shown.run || drive.isOn) redraw();
   if (drive.isOn) showDrive();
   sheet.cycle?.show(isOn ? 0 : sheet.cycle.shown); // a lecture begins without arrows
-  if (sheet.cycle && !drive.isOn) showQuestion(sheet.test);
+  if (!drive.isOn && document.querySelector('.reason, .states-sheet')) showQuestion(inputOf('sweep'));
   noteVisit();
   keepList();
   drawBar();
@@ -45,7 +45,9 @@ async function toggleLecture() {
 /** Opens a saved list: several tests are a lecture, but no exercises; a reload goes on at its place. */
 function openLecture(at = 0) {
   openListed(Math.min(Math.max(0, at), taught.list.length - 1));
-  if (taught.list.length > 1 && !isExercise()) putLecture(true);
+  if (taught.list.length <= 1 || isExercise()) return;
+  putLecture(true);
+  putLed(true);
 }
 
 // A clicker has the keys PageUp and PageDown: they step what is shown.
@@ -103,8 +105,8 @@ function openBefore() {
   if (isWhyNext()) askWhy();
 }
 
-function saidOfNext({ name }) {
-  const now = toGoThrough()[placeNow()], [test, kind] = name.split(': ');
+function saidOfNext(entry) {
+  const now = toGoThrough()[placeNow()], test = plainName(entry), kind = ownNameOf(entry) ? '' : entry.name.split(': ')[1];
   return now && kind && plainName(now) === test ? kind : `next test: ${test}`;
 }
 

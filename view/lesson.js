@@ -226,6 +226,8 @@ function judgedAnswer({ right, because }, answer) {
   return `${answer === right ? 'Right.' : `Not so: the answer is “${right}”.`} ${because}`;
 }
 
+const SHORT_SAID = 80; // letters: they stand beside Back
+
 const putSaid = (id, said) => {
   byId(id).hidden = said === '';
   putText(byId(id), said);
@@ -237,7 +239,8 @@ function showSentences() {
   putSaid('lesson-said', step.ask ?? (step.do === undefined ? step.say : ''));
   byId('lesson-said').classList.toggle('sum', isSum());
   putSaid('lesson-after', isStrayed ? `You may go your own way. ${drawn.panels[0]?.sentences.join(' ')}` : refused || (isDone && (step.ask === undefined ? step.then : judgedAnswer(step, answer))) || '');
-  byId('lesson-now').replaceChildren(...(isAsked() ? ['Answer first.'] : wantedNow() === undefined ? [] : pressSaid(steps[at + isDone])));
+  byId('lesson-now').replaceChildren(...(isAsked() ? (refused === '' ? ['Answer first.'] : []) : wantedNow() === undefined ? [] : pressSaid(steps[at + isDone])));
+  byId('lesson-now').classList.toggle('short', byId('lesson-now').textContent.length <= SHORT_SAID);
   const judged = isStrayed || answer === null || step.right === undefined ? '' : answer === step.right ? 'right' : 'wrong';
   byId('lesson-after').className = `after ${refused === '' ? judged : 'wrong'}`;
 }
@@ -356,12 +359,13 @@ function showLessons() {
   (byId('lessons').children[1] ?? byId('lessons')).querySelector('button').focus({ preventScroll: true });
 }
 
-const doneParts = new Set(); // each by its lesson and first step
+const doneParts = new Set(); // each by its lesson and first step; a reload keeps them
 
 /** Ticks the parts that were done, and marks the one that one is in. */
 function markLessons() {
   const { told, at } = lesson, now = told && `${told.name} ${beginOf(told.steps, at)}`;
   if (told && isSum()) doneParts.add(now);
+  byId('marks-last').hidden = doneParts.size === 0;
   for (const { dataset: { lesson: of, step }, nextSibling } of byId('lessons').querySelectorAll('button')) {
     const part = `${of} ${step}`;
     putText(nextSibling, (doneParts.has(part) ? ' ✓ done' : '') + (part === now ? ' ● here' : ''));
@@ -374,7 +378,7 @@ function drawLessons() {
   byId('first-lesson').dataset.lesson = name;
   byId('first-lesson').textContent = title;
   byId('more-lessons').hidden = !second;
-  putText(byId('more-lessons'), `Then: ${second?.title.split(':')[0]} (${lessons.length} lessons in all)`);
+  putText(byId('more-lessons'), `Then: ${second?.title.split(':')[0]}, and more`);
   const link = (of, at, text, ...parts) => html('li', {}, html('button', { type: 'button', 'data-lesson': of, 'data-step': at, class: 'quiet' }, text), html('span', {}), ...parts);
   byId('lessons').replaceChildren(...lessons.map(each => {
     const parts = each.steps.flatMap(({ title: part }, at) => (part === undefined ? [] : [link(each.name, at, part)]));
@@ -389,10 +393,7 @@ document.addEventListener('click', ({ target }) => {
   else if (answer !== undefined) answerLesson(answer);
   else if (shows !== undefined) showInLesson();
 });
-byId('lesson-next').addEventListener('click', goOn);
-byId('lesson-also').addEventListener('click', goElsewhere);
-byId('lesson-back').addEventListener('click', goBack);
-byId('lesson-leave').addEventListener('click', leaveLesson);
-byId('lesson-again').addEventListener('click', () => beginLesson(leftLesson.name, leftLesson.at));
-byId('more-lessons').addEventListener('click', showLessons);
-byId('to-first-test').addEventListener('click', toFirstTest);
+onPress({
+  'lesson-next': goOn, 'lesson-also': goElsewhere, 'lesson-back': goBack, 'lesson-leave': leaveLesson,
+  'lesson-again': () => beginLesson(leftLesson.name, leftLesson.at), 'more-lessons': showLessons, 'to-first-test': toFirstTest,
+});

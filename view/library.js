@@ -46,7 +46,7 @@ async function openLibrary() {
 const ORDERS = 'Orders, for the command check';
 const isOrderText = ({ file }) => file.endsWith('.order');
 
-/** What stands on top of the list while nothing is searched for: the texts to begin with. */
+/** What stands on top of the list at first: the texts to begin with. */
 const START_HERE = 'Start here';
 const STARTS = ['store-buffering.litmus', 'store-buffering-fenced.litmus', 'MP.litmus', 'false-sharing.litmus', 'CASLOCK.litmus'];
 

@@ -1,8 +1,8 @@
 'use strict';
 
-// How much text the page takes. A browser lays out each line of a field, so very many lines are refused beforehand.
+// How much text the page takes: a browser lays out each line of a field.
 
-/** The bytes of an input are the program's own limit; the lines are the page's. No test or order has nearly as many. */
+/** The bytes are the program's own limit, the lines the page's. No test or order has nearly as many. */
 const MOST_TEXT = { bytes: 1048576, lines: 5000 };
 
 /** How many lines a text has; where it has more than the limit, one more than that. */

@@ -4,17 +4,28 @@
 
 const QUICK = 1500; // milliseconds: an answer to `why` that took no longer comes again by itself after an edit
 const TYPING = 300; // milliseconds without an edit
+const QUICK_STATES = 20000; // outcomes come by themselves where these are enough: a third of a second
 
-/** Of a long command that isn't begun: what is wrong with its test, or nothing. Where the last answer to `why` was quick, the next one comes
- * by itself; until then the last one stays. */
+const NOTHING = { status: 0, text: '', hint: '' };
+
+/** Says what begins a command, in the place of its answer and beside the button. */
+function sayToBegin(command, why = '') {
+  showAnswer(NOTHING);
+  byId('states').replaceChildren(html('p', { class: 'faint to-begin' }, `Press “${BEGINS[command]}”.`));
+  putText(byId('begin-said'), why);
+}
+
+/** Of a long command that isn't begun: what is wrong with its test, or nothing. Outcomes of few states come by themselves, and `why` where
+ * its last answer was quick; until then the last answer stays. */
 function showRefusalAlone(command) {
   const answer = asked({ command: 'run' }, inputOf(command)), isRefused = answer.status === Tso.STATUS.refused;
-  const isLive = command === 'why' && !isRefused && bench.took < QUICK;
+  const isLive = !isRefused && (command === 'why' ? bench.took < QUICK : command === 'outcomes' && canAsk());
   const isAnswered = byId('states').childElementCount > 0 && bench.answer?.text.startsWith('{');
   clearTimeout(bench.again);
-  if (isLive) bench.again = setTimeout(() => currentCommand() === 'why' && begin({ isAgain: true }), TYPING);
-  if (!(isLive && isAnswered)) showAnswer(isRefused ? answer : { status: 0, text: '', hint: '' });
-  if (!isRefused && !isLive) byId('states').replaceChildren(html('p', { class: 'faint to-begin' }, `Press “${BEGINS[command]}”.`));
+  if (isLive) bench.again = setTimeout(() => currentCommand() === command && begin({ isAgain: true, most: QUICK_STATES }), TYPING);
+  if (isRefused) showAnswer(answer);
+  else if (!isLive) sayToBegin(command);
+  else if (!isAnswered) showAnswer(NOTHING);
 }
 
 /** What Ctrl and Enter ask. */
@@ -26,17 +37,17 @@ function stopTask() {
   endWorking();
 }
 
-/** Begins a long command in a worker. What is shown stays in sight until there is an answer. One that comes again by itself (`isAgain`) is told
- * beside the test, where one writes. An answer that is there already is gone to. */
-async function begin({ isAgain } = {}) {
+/** Begins a long command in a worker. What is shown stays in sight until there is an answer. One that comes by itself (`isAgain`) is told
+ * beside the test; a search that then needs more than `most` states waits until it is asked for. An answer that is there is gone to. */
+async function begin({ isAgain, most = Infinity } = {}) {
   const command = currentCommand(), { options } = showAsked(command), asks = JSON.stringify([options, inputOf(command)]);
   if (isAgain !== true && bench.told === asks) return focusAnswer();
   if (LONG.includes(command)) bench.last = command;
   stopTask();
   clearTimeout(bench.again);
   byId('about').open = false;
-  const began = Date.now(), input = inputOf(command), task = bench.task = beginTask(bench.bytes, questionsOf(command, options), input, tellProgress);
-  if (command === 'run') showAnswer({ status: 0, text: '', hint: '' });
+  const isCut = most < options.states, began = Date.now(), input = inputOf(command), task = bench.task = beginTask(bench.bytes, questionsOf(command, isCut ? { ...options, states: most } : options), input, tellProgress);
+  if (command === 'run') showAnswer(NOTHING);
   beginWorking();
   if (isAgain === true) working.asker = byId('test');
   try {
@@ -44,6 +55,7 @@ async function begin({ isAgain } = {}) {
     if (bench.task !== task) return;
     stopTask();
     if (command === 'why') bench.took = Date.now() - began;
+    if (isCut && answers[0].status === Tso.STATUS.unended) return sayToBegin(command, 'Many states: press it to search.');
     drawLong(command, answers, options, input);
     bench.told = command === 'run' ? null : asks;
     if (bench.answer.status === Tso.STATUS.refused) focusRefusal();
@@ -90,7 +102,7 @@ function showUnfinished(command, answer) {
 function questionsOf(command, options) {
   if (command === 'run') return [options, { ...options, json: true }];
   if (command === 'outcomes') return [{ ...options, json: true }, ...(options.depth > 0 ? [{ ...options, depth: 0, json: true, after: Tso.STATUS.good }] : []),
-    ...(whyCan(inputOf('why')) === null ? [{ command: 'why', json: true, after: Tso.STATUS.unended }] : [])];
+    ...(whyCan(inputOf('why')) === null && options.states !== QUICK_STATES ? [{ command: 'why', json: true, after: Tso.STATUS.unended }] : [])];
   if (command === 'counts') return countedProtocols().map(protocol => ({ ...options, protocol, json: true }));
   if (command === 'why') return [{ ...options, json: true }, ...(options.model === 'tso' ? [{ command, json: true, model: 'sc', cases: POSSIBLE_CASES }] : [])];
   return [options];
@@ -114,12 +126,14 @@ function showOutcomes(answer, beside, test) {
   foldReport(answer);
   const fine = sequential ? [html('span', { class: 'fine' }, ` ${besideSentence(outcomes, sequential)}`)] : [];
   const said = html('p', { role: 'status' }, ...judgedOutcomes(outcomes, test), verdictOf(observationSentence(outcomes, test)), ...fine);
-  const sheetOfAll = statesSheet(outcomes, sequential, truthsOf(outcomes, test));
+  const sheetOfAll = statesSheet(outcomes, sequential, truthsOf(outcomes));
   const { proposition } = readTest(test);
   byId('states').replaceChildren(answerTitle('All outcomes'), said, ...termsPart(proposition && wantedWords(proposition)), ...sheetOfAll, ...outcomesInTerms(outcomes, sequential));
+  showQuestion(test);
+  showFoot();
 }
 
-/** Notes whether all outcomes of TSO say that the task can't be done, and judges what the reader of an exercise had said. */
+/** Notes where all outcomes say that the task can't be done, and judges what the reader of an exercise had said. */
 function judgedOutcomes({ observation, depth }, test) {
   if (observation === null || depth !== SET_AT_FIRST.searched) return [];
   const can = (quantifierOf(test) === 'forall' ? observation.false : observation.true) > 0;
@@ -127,12 +141,11 @@ function judgedOutcomes({ observation, depth }, test) {
   return judgeThought(can);
 }
 
-/** Shows what a search had met when it came to its limit or was stopped: some of the final states, or none. */
+/** Shows what a search had met at its limit or where it was stopped: some final states, or none. */
 function showMet(answer, depth, isStopped = false) {
   const met = readMet(answer.text);
   if (met.states.length === 0) return showUnfinished('outcomes', answer);
   showAnswer(isStopped ? { ...answer, hint: '' } : answer); // no limit was met
   foldReport(answer);
-  const truths = met.states.every(({ holds }) => typeof holds === 'boolean') ? met.states.map(({ holds }) => holds) : null;
-  byId('states').replaceChildren(answerTitle('Some outcomes'), ...openVerdict(met.states, metSentence(met, isStopped)), waysOn('outcomes', { isStopped }), ...statesSheet({ ...met, depth }, null, truths));
+  byId('states').replaceChildren(answerTitle('Some outcomes'), ...openVerdict(met.states, metSentence(met, isStopped)), waysOn('outcomes', { isStopped }), ...statesSheet({ ...met, depth }, null, truthsOf(met)));
 }

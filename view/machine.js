@@ -3,7 +3,7 @@
 // The machine: its cores with their buffers and caches, its bus and its memory. What the last step changed stands out.
 
 const MOST_LINES = 8; // of a program that are in sight at a time
-const CACHED = { most: 4 }; // rows of a cache that have room while they aren't there
+const MOST_ROWS = 4; // of a cache that have room while they aren't there
 
 const marked = (name, isChanged) => (isChanged ? { class: `${name} changed` } : { class: name });
 
@@ -19,6 +19,16 @@ const isLocked = instruction => /^LOCK\b|^XCHG\b.*\[/i.test(instruction);
 
 /** Whether an instruction compares a location with EAX. */
 const isComparing = instruction => /^LOCK\s+CMPXCHG\b/i.test(instruction);
+
+/** The programs with NOPs and exchanges as the test has them, where its rows are plain. */
+function asWritten(test, programs) {
+  const lines = test.split('\n'), rows = lines.slice(lines.findIndex(line => /^\s*P0\s*[|;]/.test(line)) + 1).filter(line => /;\s*$/.test(line)).map(cellsOf);
+  const asIn = (text, read) => (read === 'NOP' ? text.toUpperCase() : /^XCHG \w+ *, *\[/i.test(text) ? read.replace(/(\[\w+\]),(\w+)/, '$2,$1') : read);
+  return programs.map((program, core) => {
+    const own = rows.flatMap(cells => cells[core]?.text || []);
+    return own.length === program.length && !test.includes('(*') ? own.map((text, at) => asIn(text, program[at])) : program;
+  });
+}
 
 /** The registers that an instruction writes. */
 function writtenBy(instruction) {
@@ -41,7 +51,7 @@ function registerItems(now, before, written, used, just, named) {
   return used.map(name => html('li', {
     ...marked(written.includes(name) ? 'word written' : 'word plain', just.includes(name)),
     title: written.includes(name) ? `An instruction wrote ${name}.` : `No instruction has written ${name} yet.`,
-  }, `${name}${named?.[name] ? ` (${named[name]})` : ''}=${now[name]}`));
+  }, name, ...(named?.[name] ? [html('span', { class: 'in-c' }, ` (${named[name]})`)] : []), `=${now[name]}`));
 }
 
 /** The stores that wait, the oldest first, after one that left. */
@@ -60,8 +70,8 @@ function stateCell(state, change) {
 
 const lineWords = (line, words) => (words.length > 1 ? line.split('+').map((name, at) => `${name}=${words[at]}`) : words).join(' ');
 
-/** The rows of a cache: each line of each set, then those that a step took away, and one that is awaited. */
-function cacheRows(sets, changes, awaited, supply) {
+/** The rows of a cache: each line of each set, one that is awaited, and as far as there is room those it once had. */
+function cacheRows(sets, changes, awaited, supply, had) {
   const changeOf = line => changes.find(change => change.line === line);
   const rowOf = (set, line, state, words, kind = '') => html('tr', { class: kind },
     ...(sets.length > 1 ? [html('td', { class: 'faint' }, set === '' ? '' : `set ${set}`)] : []),
@@ -69,8 +79,8 @@ function cacheRows(sets, changes, awaited, supply) {
   const there = sets.flatMap((lines, set) => lines.map(({ line, state, words }) => rowOf(set, line, awaited?.line === line ? awaited.state : state, words)));
   const has = name => sets.some(lines => lines.some(({ line }) => line === name));
   const comes = awaited && !has(awaited.line) ? [rowOf('', awaited.line, awaited.state, ['…'])] : [];
-  const left = changes.filter(({ line, after }) => after === 'I' && !has(line)).map(({ line, after }) => rowOf('', line, after, [], 'gone'));
-  const rows = [...there, ...comes, ...left];
+  const gone = had.filter(line => line !== awaited?.line && !has(line)).filter((line, at) => changeOf(line) || there.length + comes.length + at < MOST_ROWS);
+  const rows = [...there, ...comes, ...gone.map(line => rowOf('', line, 'I', [], 'gone'))];
   return rows.length > 0 ? rows : [html('tr', {}, html('td', { class: 'prose faint', colspan: sets.length > 1 ? 4 : 3 }, 'no lines'))];
 }
 
@@ -98,26 +108,27 @@ function buttonTexts(program, { place, buffer }, bus, core) {
 /** A part's heading, which says what the part is. Where it `isStop` a Tab leads to it, and arrows from it to the words there. */
 const partTitle = (text, isStop) => html('h5', { 'data-means': text, tabindex: isStop ? 0 : -1, 'aria-label': text, 'aria-description': MEANINGS[text] }, text);
 
-/** A core's instructions, each with what it does at the pointer; the first of its kind in the test at the focus too. */
-function instructionItems(programs, core) {
-  const before = programs.slice(0, core).flat().map(kindOfInstruction), own = programs[core].map(kindOfInstruction), lines = inC(programs)?.lines[core];
-  return programs[core].map((text, at) => {
+/** A core's instructions as `written`, each with what it does at the pointer; the first of its kind in the test at the focus too. */
+function instructionItems(programs, written, core) {
+  const before = programs.slice(0, core).flat().map(kindOfInstruction), own = programs[core].map(kindOfInstruction);
+  const lines = inC(programs)?.lines[core] ?? written[core].map(text => (/^[LS]FENCE/.test(text) ? 'no effect here' : ''));
+  return written[core].map((text, at) => {
     const kind = own[at], isFirst = !before.includes(kind) && own.indexOf(kind) === at;
     const code = isFirst ? withMeaning({ tabindex: -1 }, kind, text, 'code') : html('code', { 'data-means': kind }, text);
-    return html('li', { value: at, ...(lines ? { 'data-c': lines[at] } : {}), ...(kind === 'a fence' ? { 'data-means': kind } : {}) }, code);
+    return html('li', { value: at, ...(lines[at] ? { 'data-c': lines[at] } : {}), ...(kind === 'a fence' ? { 'data-means': kind } : {}) }, code);
   });
 }
 
 class CorePanel {
-  constructor(core, history) {
+  constructor(core, history, written) {
     const { programs, options } = history;
     this.core = core;
-    this.programs = programs;
     this.program = programs[core];
+    this.written = written[core];
     this.used = usedRegisters(history, core);
     this.named = inC(programs)?.names[core];
     this.depth = options.depth;
-    this.makeParts(options, instructionItems(programs, core));
+    this.makeParts(instructionItems(programs, written, core));
     this.element = html('section', { class: 'core', 'data-core': core, 'aria-label': `Core P${core}` },
       html('h4', {}, `P${core}`), html('div', { class: 'core-buttons' }, ...['step', 'drain'].map(way => html('div', { class: 'choice' }, this[way], this.stalls[way]))),
       html('div', { class: 'of-core' }, partTitle('Program', true), this.list, partTitle('Registers'), this.registers.element,
@@ -125,7 +136,7 @@ class CorePanel {
       html('div', { class: 'of-caches' }, partTitle('Cache'), this.cache));
   }
 
-  makeParts({ sets, ways }, items) {
+  makeParts(items) {
     const button = (way, name) => html('button', { type: 'button', 'data-choice': `${this.core}${name}` },
       html('kbd', { 'aria-hidden': 'true' }, `${this.core}${name}`), ` ${way} `, html('code', {}));
     const list = (name, label, draw) => new Part(html('ul', { class: name, 'aria-label': label }), draw);
@@ -137,36 +148,35 @@ class CorePanel {
     const isLong = this.program.length > MOST_LINES;
     const named = { 'aria-label': `Program of P${this.core}`, ...(isLong ? { tabindex: 0 } : {}) };
     this.list = html('ol', { class: isLong ? 'program long' : 'program', start: 0, ...named }, ...items);
-    for (const [name, texts] of [['--code', this.program], ['--c', items.map(({ dataset }) => dataset.c ?? '')]]) this.list.style.setProperty(name, Math.max(0, ...texts.map(text => text.length)));
+    for (const [name, texts] of [['--code', this.written], ['--c', items.map(({ dataset }) => dataset.c ?? '')]]) this.list.style.setProperty(name, Math.max(0, ...texts.map(text => text.length)));
     this.registers = list('registers', 'Registers', registerItems);
     this.buffer = list('buffer', 'Store buffer, the oldest store first', bufferItems);
     this.lines = new Part(html('tbody', {}), cacheRows);
     this.cache = html('div', { class: 'cache-room' }, html('table', { class: 'cache', 'aria-label': 'Cache' }, this.lines.element));
-    this.cache.style.setProperty('--rows', Math.min(CACHED.most, sets * ways + 1)); // one row more, for a line that leaves
   }
 
   /** Shows the core as it is after a step and what that step changed. `bus` is the bus where this core holds it, and else null. */
-  show(core, old, { bus, changes, hasEnded, isLast, supply }) {
-    const key = JSON.stringify([core, old, bus, changes, hasEnded, isLast, supply]), isBuffer = supply?.from === 'buffer';
+  show(core, old, { bus, changes, had, hasEnded, isLast, supply }) {
+    const key = JSON.stringify([core, old, bus, changes, had, hasEnded, isLast, supply]), isBuffer = supply?.from === 'buffer';
     if (key === this.key && !this.hasOffered) return;
     this.key = key;
     this.registers.show(core.registers, old.registers, this.program.slice(0, core.place).flatMap(writtenBy), this.used, core.place === old.place ? [] : writtenBy(this.program[old.place]), this.named);
     this.buffer.show(core.buffer, old.buffer, isBuffer ? supply : null);
-    this.lines.show(core.lines, changes, bus?.state?.length > 1 ? { line: bus.line, state: bus.state } : null, isBuffer ? null : supply);
+    this.lines.show(core.lines, changes, bus?.state?.length > 1 ? { line: bus.line, state: bus.state } : null, isBuffer ? null : supply, had);
     this.showButtons(core, bus, hasEnded);
     this.showPlace(core.place, core.place !== old.place);
     this.element.classList.toggle('acted', isLast);
   }
 
   showButtons(core, bus, hasEnded) {
-    const isFinished = this.program[core.place] === undefined, texts = buttonTexts(this.program, core, bus, this.core), stalls = knownStalls(this.program, core, this.depth);
+    const isFinished = this.program[core.place] === undefined, texts = buttonTexts(this.written, core, bus, this.core), stalls = knownStalls(this.program, core, this.depth);
     this.hasOffered = false;
     this.step.dataset.waits = hasEnded ? '' : waitsFor(this.program, core, this.depth);
     for (const way of ['step', 'drain']) {
-      const ended = way === 'step' && isFinished ? `P${this.core} has finished` : '', code = this[way].lastChild;
+      const ended = way !== 'step' || !isFinished ? '' : core.buffer.length > 0 ? 'no more instructions' : 'finished', code = this[way].lastChild;
       code.previousSibling.data = ended === '' ? ` ${way} ` : ` ${ended}`;
       putText(code, texts[way]);
-      setAll(this[way], { 'aria-label': ended || `P${this.core}: ${way} ${texts[way]}` });
+      setAll(this[way], { 'aria-label': `P${this.core}: ${ended || `${way} ${texts[way]}`}` });
       this[way].disabled = hasEnded;
       this[way].classList.toggle('idle', stalls[way]);
       this.stalls[way].hidden = hasEnded || !stalls[way] || (way === 'step' && isFinished);
@@ -218,22 +228,16 @@ function memoryItems(now, before, supply) {
 
 /** What accesses and the bus did in the first steps, counted: misses, upgrades, flushes, and write-backs where there are any. */
 function tallyText(steps, count) {
-  const all = { miss: 0, upgrade: 0, flush: 0, back: 0 };
-  for (const { access, flush, write_back: back } of steps.slice(0, count)) {
-    if (access === 'miss' || access === 'upgrade') all[access]++;
-    if (flush) all.flush++;
-    if (back) all.back++;
-  }
-  const said = (number, one, many) => `${number} ${number === 1 ? one : many}`;
-  const backs = all.back > 0 ? `, ${said(all.back, 'write-back', 'write-backs')}` : '';
-  return `so far ${said(all.miss, 'miss', 'misses')}, ${said(all.upgrade, 'upgrade', 'upgrades')}, ${said(all.flush, 'flush', 'flushes')}${backs}`;
+  const said = (isSo, one, many = `${one}s`) => (number => `${number} ${number === 1 ? one : many}`)(steps.slice(0, count).filter(isSo).length), backs = said(step => step.write_back, 'write-back');
+  return `so far ${said(({ access }) => access === 'miss', 'miss', 'misses')}, ${said(({ access }) => access === 'upgrade', 'upgrade')}, ${said(({ flush }) => flush, 'flush', 'flushes')}${/^0/.test(backs) ? '' : `, ${backs}`}`;
 }
 
 /** A machine's panel. `show` shows it after so many steps of a history of it. */
 class MachinePanel {
   constructor(history) {
     this.history = history;
-    this.panels = history.programs.map((_, core) => new CorePanel(core, history));
+    this.written = asWritten(drive.test, history.programs);
+    this.panels = history.programs.map((_, core) => new CorePanel(core, history, this.written));
     this.said = html('p', { class: 'said' });
     this.bus = new Part(html('p', { class: 'bus' }), busItems);
     this.tally = html('p', { class: 'tally' });
@@ -242,12 +246,14 @@ class MachinePanel {
     this.element = html('section', { class: 'machine', 'aria-label': `The machine: ${machineName(history.options)}` },
       this.name, this.said, html('div', { class: 'cores' }, ...this.panels.map(panel => panel.element)),
       html('div', { class: 'below' }, html('div', { class: 'of-caches' }, partTitle('Bus'), this.bus.element, this.tally), html('div', {}, partTitle('Memory', true), this.memory.element)));
+    this.element.style.setProperty('--rows', Math.min(MOST_ROWS, Math.ceil(Object.keys(history.start.memory).length / history.options.words)));
+    this.memory.element.style.setProperty('--pairs', Math.ceil(Object.keys(history.start.memory).length / 2));
     this.element.style.setProperty('--lines', Math.min(MOST_LINES, Math.max(...history.programs.map(program => program.length)))); // so that parts stand at one height
   }
 
   /** Whether this is the panel of such programs on such a machine. */
   isOf({ programs, options }) {
-    return JSON.stringify([programs, options]) === JSON.stringify([this.history.programs, this.history.options]);
+    return JSON.stringify([asWritten(drive.test, programs), options]) === JSON.stringify([this.written, this.history.options]);
   }
 
   /** Shows the machine after so many steps; where caches aren't shown (`isPlain`), as one that has none. */
@@ -257,18 +263,18 @@ class MachinePanel {
     putText(this.name, isPlain ? `The machine, with ${plainMachineName(history.options)}` : title);
     const last = count <= history.steps.length ? history.steps[count - 1] : undefined;
     const now = history.machineAfter(count), before = last ? history.machineAfter(count - 1) : now;
-    const changes = last ? stateChanges(last) : [], hasEnded = history.hasEnded(count), told = last ? supplyOf(last) : null, supply = isPlain ? plainSupply(told) : told;
+    const had = isPlain ? [] : history.steps.slice(0, count).reverse().flatMap(stateChanges), changes = last ? stateChanges(last) : [], hasEnded = history.hasEnded(count), told = last ? supplyOf(last) : null, supply = isPlain ? plainSupply(told) : told;
     const suppliedBy = from => (supply?.from === from ? supply : null);
     this.panels.forEach((panel, core) => panel.show(now.cores[core], before.cores[core], {
       supply: supply?.owner === core ? supply : null,
-      bus: now.bus?.core === core ? now.bus : null, changes: changes.filter(change => change.core === core), hasEnded,
+      bus: now.bus?.core === core ? now.bus : null, changes: changes.filter(change => change.core === core), had: [...new Set(had.filter(change => change.core === core).map(({ line }) => line))], hasEnded,
       isLast: last !== undefined && coreOfChoice(last.choice) === core,
     }));
     if (!isPlain) putText(this.tally, tallyText(history.steps, count).replace(/(\d) /g, '$1\u00a0'));
     this.bus.show(now.bus, last && { transaction: last.transaction, flush: last.flush, write_back: last.write_back }, suppliedBy('bus'));
     const wordsOf = ({ memory, seen }) => ({ memory: isPlain ? seen : memory, seen });
     this.memory.show(wordsOf(now), wordsOf(before), suppliedBy('memory'));
-    this.sentences = count > history.steps.length ? ['Its test had ended before this choice, which is left over.'] : last ? stepSentences(last, before, history.programs, isPlain) : [];
+    this.sentences = count > history.steps.length ? ['Its test had ended before this choice, which is left over.'] : last ? stepSentences(last, before, this.written, isPlain) : [];
     putText(this.said, this.sentences.join(' '));
   }
 

@@ -55,7 +55,7 @@ const INSTRUCTIONS = [
   ['a store', /^MOV\s+\[/i, 'A store: the value goes into the store buffer of this core, and to memory later, when it drains.'],
   ['a load', /^MOV\b.*\[/i, 'A load: the register gets the newest own store to the location that waits in the buffer, and else memory\'s word.'],
   ['a fence', /^MFENCE\b/i, 'A fence: it waits until the store buffer of its core is empty. In C it is atomic_thread_fence(\u200bmemory_order_seq_cst).'],
-  ['an instruction that does nothing', /^NOP\b/i, 'It does nothing. PAUSE, LFENCE and SFENCE are read as this one: under TSO they add nothing.'],
+  ['an instruction that does nothing', /^(NOP|PAUSE|LFENCE|SFENCE)\b/i, 'It does nothing. Under TSO neither do PAUSE, LFENCE and SFENCE.'],
   ['register arithmetic', /^/, 'Changes registers of this core alone. Memory and other cores don\'t see it.'],
 ];
 for (const [name, , meaning] of INSTRUCTIONS) MEANINGS[name] = meaning;
@@ -99,9 +99,7 @@ function showMeaning(event) {
 }
 
 for (const kind of ['pointerover', 'focusin']) document.addEventListener(kind, showMeaning);
-document.addEventListener('focusout', () => { byId('meaning').hidden = true; });
-window.addEventListener('resize', () => { byId('meaning').hidden = true; });
-for (const kind of ['keydown', 'click']) document.addEventListener(kind, () => { byId('meaning').hidden = true; });
+for (const kind of ['focusout', 'resize', 'keydown', 'click']) window.addEventListener(kind, () => { byId('meaning').hidden = true; }, true);
 document.addEventListener('pointermove', ({ screenX: x, screenY: y }) => Object.assign(pointerWas, { x, y }), { passive: true });
 
 /** Down and up lead to the other words of a core, of memory, or of the picture: one Tab stop has all of these. */

@@ -2,13 +2,10 @@
 
 // The table of all final states, each with a button for the choices that reach it; or of those that were met.
 
-/** What `outcomes --json` says: its states, the observation and the verdict; of a search that met its limit how many states weren't enough. */
-function readOutcomes(text) {
-  const { states, observation, verdict = null, unfinished, depth } = JSON.parse(text);
-  return { states, observation, verdict, unfinished, depth };
-}
+/** What `outcomes --json` says; of a search that met its limit how many states weren't enough. */
+const readOutcomes = text => ({ verdict: null, ...JSON.parse(text) });
 
-/** The sentence on top: in plain words how many states are as the condition says. `test` is the text of the test, whose condition has the words. */
+/** The sentence on top: in plain words how many states are as the condition of the test says. */
 function observationSentence({ states, observation, depth }, test) {
   const where = depth === 32 ? 'under TSO' : depth === 0 ? 'under sequential consistency' : `with store buffers of depth ${depth}`;
   if (observation === null) return `${states.length === 1 ? 'One outcome' : `${states.length} outcomes`} ${where}.`;
@@ -31,8 +28,7 @@ function countSentence(all, yes, where, test) {
   return `${quantifier === 'exists' ? (yes > 0 ? 'Yes' : 'No') : claimWords(yes === (isForall ? all : 0))}: ${count}`;
 }
 
-/** Of a search that met its limit: the final states that it had met, and a verdict where one of them decides it. A module that is older
- * tells none. */
+/** Of a search that met its limit: the states that it had met, and a verdict where one decides it. An older module tells none. */
 function readMet(text) {
   const { met = [], verdict = null, unfinished } = JSON.parse(text);
   return { states: met, verdict, unfinished };
@@ -67,20 +63,10 @@ function newStates({ states }, sequential) {
   return states.map(({ values }) => !there.has(valuesText(values)));
 }
 
-const MOST_RUN = 100; // states whose choices are run for the table
+const MOST_RUN = 100; // states for which easy choices are sought
 
-/** Of each state whether the condition's proposition is true of it, as the answer tells; of an older module, by running its choices; null
- * where neither does. */
-function truthsOf({ states, observation, depth }, test) {
-  if (observation === null) return null;
-  if (states.every(({ holds }) => typeof holds === 'boolean')) return states.map(({ holds }) => holds);
-  if (states.length > MOST_RUN) return null;
-  const truths = states.map(({ choices }) => {
-    const { status, text } = asked({ command: 'run', json: true, depth }, `${test}${DIVIDING_LINE}\n${choices}\n`);
-    return status === Tso.STATUS.good ? readLine(text.trim()).condition?.holds ?? null : null;
-  });
-  return truths.includes(null) ? null : truths;
-}
+/** Of each state whether the condition's proposition is true of it, as the answer tells; null where it doesn't. */
+const truthsOf = ({ observation, states }) => (observation !== null && states.every(({ holds }) => typeof holds === 'boolean') ? states.map(({ holds }) => holds) : null);
 
 const LONG_CHOICES = 80; // letters, from which on choices are folded
 
@@ -92,34 +78,37 @@ function foldedChoices(choices, before = '') {
 
 const lastWord = ({ registers, memory }, name) => memory.get(name) ?? registers[name[0]]?.get(name.slice(2)); // of a run
 
-/** The choices that are told for each state: no load passes a store, where sequential consistency has it too, and each that can, where it is asked for. */
-function waysTo({ states, depth }, sequential, truths) {
+/** The choices that are told for each state: where SC has it too no load passes a store, where it is sought each that can. */
+function waysTo({ states, depth }, sequential, sought) {
   const { programs } = readTest(inputOf('outcomes')), late = lateRun(programs, depth)?.choices, few = states.length > MOST_RUN ? [] : sequential?.states;
   const calm = new Map(few?.map(({ values, choices }) => [valuesText(values), drainedAtOnce(programs, choices)]));
-  return states.map(({ values, choices }, at) => [calm.get(valuesText(values)), truths?.[at] && late].find(each => {
+  return states.map(({ values, choices }, at) => [calm.get(valuesText(values)), sought?.[at] && late].find(each => {
     const run = each && runOf(each, 'tso');
     return run && Object.keys(values).every(name => lastWord(run, name) === values[name]);
   }) ?? choices);
 }
 
-/** A row for each state; its button has the choices, which `loadChoices` takes. Beside them, where it is known, whether sequential
- * consistency has the state too, and whether the condition is true of it. */
+/** The column of the condition: its head, and its words for a state that is sought (of a claim: that breaks it) and for others. */
+const columnOf = quantifier => (quantifier === 'exists' ? ['Condition', '✓ true', 'false'] : ['Claim', '✗ breaks it', 'keeps it']);
+
+/** A row for each state; its button has the choices, which `loadChoices` takes. Beside them, where it is known, whether SC has it
+ * too, and what the condition says of it. */
 function outcomesTable(outcomes, sequential, truths) {
   const { states, depth } = outcomes, names = Object.keys(states[0].values), isNew = sequential && newStates(outcomes, sequential);
-  const ways = waysTo(outcomes, sequential, truths);
-  const titles = [...names, ...(sequential ? ['Under'] : []), ...(truths ? ['Condition'] : []), 'Choices that lead there', ''];
-  const sheet = tableOf('Final states', titles, states.map(({ values }, at) => html('tr', truths?.[at] ? { class: 'met' } : {},
+  const quantifier = quantifierOf(inputOf('outcomes')), [condition, yes, no] = columnOf(quantifier), sought = truths?.map(truth => truth === (quantifier !== 'forall'));
+  const ways = waysTo(outcomes, sequential, sought);
+  const titles = [...names, ...(sequential ? ['Under'] : []), ...(truths ? [condition] : []), 'Choices that lead there', ''];
+  const sheet = tableOf('Final states', titles, states.map(({ values }, at) => html('tr', sought?.[at] ? { class: 'met' } : {},
     ...names.map(name => html('td', { class: 'number', 'data-name': name }, String(values[name]))),
     ...(sequential ? [html('td', { class: 'unbroken' }, isNew[at] ? html('strong', {}, 'TSO alone') : 'TSO and SC')] : []),
-    ...(truths ? [html('td', { class: truths[at] ? '' : 'faint' }, truths[at] ? '✓ true' : 'false')] : []),
+    ...(truths ? [html('td', { class: sought[at] ? 'unbroken' : 'faint unbroken' }, sought[at] ? yes : no)] : []),
     html('td', { class: 'wraps way' }, ...foldedChoices(ways[at])),
     html('td', {}, html('button', { type: 'button', class: 'goes', 'data-choices': ways[at], 'data-depth': depth, 'aria-label': `Run to ${valuesText(values)}` }, 'Run them')))));
   if (outcomes.unfinished === undefined) sheet.querySelector('table').append(...neverRow(names, titles.length, truths));
   return sheet;
 }
 
-/** The row of what the condition asks for, where none of all states is so and the condition names each column: struck through, below the
- * table. Of a search that didn't end it can't be told. */
+/** The row of what the condition asks for, where no state is so and the condition names each column: struck through, below. */
 function neverRow(names, columns, truths) {
   const { proposition } = readTest(inputOf('outcomes')), wanted = truths?.every(truth => !truth) && proposition !== null ? wantedWords(proposition) : null;
   const words = new Map(wanted?.map(({ core, register, location, word }) => [location ?? `${core}:${register}`, word]));

@@ -113,6 +113,17 @@ function stepsArrows({ key, target }) {
   return true;
 }
 
+/** In a wide window the test's line is the first in the bar, for Tab too. */
+const wideBar = matchMedia('(min-width: 1000px)');
+const orderBar = () => (wideBar.matches ? byId('about').before(byId('bench')) : byId('folds').after(byId('bench')));
+
+/** Opens the list of keys, or closes it. */
+function toggleKeys() {
+  const [title] = byId('keys').children;
+  title.focus();
+  title.click();
+}
+
 const canEdit = () => bench.tso !== null && lesson.told === null && !isLecture() && byId('letter-keys').checked;
 
 /** Opens the test, to be written on. */
@@ -126,9 +137,10 @@ const canAsk = () => bench.tso !== null && lesson.told === null && !isUnanswered
 
 document.addEventListener('keydown', event => {
   if (event.ctrlKey && event.key === 'Enter' && canAsk()) ask(askedNext());
-  const isForOthers = event.target.matches('textarea, select, input:not([type=checkbox])') || event.ctrlKey || event.altKey || event.metaKey || (event.shiftKey && event.key !== '+');
+  const isForOthers = event.target.matches('textarea, select, input:not([type=checkbox])') || event.ctrlKey || event.altKey || event.metaKey || (event.shiftKey && !'+?'.includes(event.key));
   if (!isForOthers && ASK_KEYS[event.key] && canAsk() && byId('letter-keys').checked) return ask(ASK_KEYS[event.key]);
   if (!isForOthers && event.key === 'e' && canEdit()) return editTest(event);
+  if (!isForOthers && event.key === '?' && !isLecture() && byId('letter-keys').checked) return toggleKeys();
   if (!isForOthers && stepsArrows(event)) return event.preventDefault();
   if (isForOthers || !(shown.run || drive.isOn)) return;
   if (KEYS[event.key] && isAsked() && answerByKey(event.key)) return event.preventDefault();
@@ -155,9 +167,13 @@ document.addEventListener('click', event => {
   else if (cycle !== undefined) drawCycle(Number(cycle));
   else if (edges !== undefined) sheet.cycle.move(edges);
 });
-byId('drive-it').addEventListener('click', driveTest);
-byId('to-answer').addEventListener('click', focusAnswer);
-byId('copy-words').addEventListener('click', copyWords);
+wideBar.addEventListener('change', orderBar);
+orderBar();
+onPress({
+  'drive-it': driveTest, 'to-answer': focusAnswer, 'copy-words': copyWords, begin, play: playOrPause, 'draw-seed': drawSeed, 'task-why': askWhy,
+  'to-run': backToRun, 'find-outcomes': findOutcomes, 'ask-why': askWhy, 'copy-link': copyLink, 'remove-choices': removeChoices,
+  'write-so': writeRepairs,
+});
 byId('line').addEventListener('input', event => show(event.target.value));
 byId('file').addEventListener('change', event => {
   if (event.target.files.length > 0) takeFile(event.target.files[0]);
@@ -182,26 +198,16 @@ byId('settings').addEventListener('input', ({ target }) => {
   lent.delete(target.id.slice('set-'.length));
   keepPosition(answerNow);
 });
-byId('begin').addEventListener('click', begin);
 byId('skip').addEventListener('click', event => {
   event.preventDefault(); // what stands after # in the address is a test
   (document.querySelector('[data-choice]:enabled') ?? byId('frame')).focus();
 });
-byId('play').addEventListener('click', playOrPause);
-byId('draw-seed').addEventListener('click', drawSeed);
 byId('speed').addEventListener('input', () => setSpeed(Number(byId('speed').value)));
 byId('beside-it').addEventListener('change', event => putBeside(event.target.value));
 byId('order-part').addEventListener('toggle', showOrder);
 byId('report-part').addEventListener('toggle', () => byId('report-part').open && showReport());
 
 byId('caches').addEventListener('change', event => wantCaches(event.target.checked));
-byId('task-why').addEventListener('click', askWhy);
-byId('to-run').addEventListener('click', backToRun);
-byId('find-outcomes').addEventListener('click', findOutcomes);
-byId('ask-why').addEventListener('click', askWhy);
-byId('copy-link').addEventListener('click', copyLink);
-byId('remove-choices').addEventListener('click', removeChoices);
-byId('write-so').addEventListener('click', writeRepairs);
 byId('search').addEventListener('input', showLibrary);
 byId('comparison').addEventListener('toggle', () => bench.tso && compareNow());
 for (const scrolled of [window, byId('frame')]) scrolled.addEventListener('scroll', () => (shown.run || drive.isOn) && placeNames(), { passive: true });

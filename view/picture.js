@@ -7,7 +7,7 @@ const FEW = { rows: 6, row: 66, high: 372, width: 400 }; // so few rows are high
 const LANE = { most: 300, large: 220, box: 210, least: 66 }; // the last two are of a box in it
 const TRACK = { most: 11, room: 44 };
 const PAPER = { whole: 24, piece: 8 }; // rows: of a picture that goes on one page, of a piece of a longer one
-const LEAST_FONT = 12, NOTE_FONT = 12, RING = 12; // words keep off it
+const LEAST_FONT = 12, NOTE_FONT = 12, WORDY = 13, RING = 12; // more words before letters above WORDY
 const GLYPH = 0.61; // the width of a letter of the fixed fonts, for a size of 1
 
 /** Where everything stands in a picture of at most this width, or as narrow as a lane may be. */
@@ -20,7 +20,7 @@ function layoutOf({ cores, tracks, order, programs }, width) {
   const top = moment => HEAD + moment * row;
   const box = Math.min(LANE.box, lane - inner - MARGIN), large = lane >= LANE.large;
   return {
-    tracks, pitch, lane, inner, left, top, row, label: large ? 17 : 13,
+    tracks, pitch, lane, inner, left, top, row, label: large ? 17 : 15,
     width: GUTTER + cores * lane + 2, height: top(order.length) + 2,
     middle: entry => top(entry.index + 0.5),
     trackOf: store => left(store.core) + INSET + (store.track + 0.5) * pitch,
@@ -51,15 +51,15 @@ function labelOf(entry, letters) {
   return `${entry.kind} ${name}=${entry.value}`;
 }
 
-/** The letters of a note: larger in a lecture. */
-const noteFont = () => (isLecture() ? 13.5 : NOTE_FONT);
+/** The letters of a note: larger in a lecture, and in wide lanes. */
+const noteFont = ({ label }) => 0.83 * label + (isLecture() ? 1.5 : 0);
 
 /** What stands above an entry's label: its name, and what it passed as far as there is room. */
 function noteOf(entry, letters) {
   const { passed } = entry;
   if (passed.length === 0) return nameOf(entry);
   const isOwn = passed.includes(entry.source);
-  const [{ location }] = passed, passes = passed.length > 1 ? [` passed ${passed.length} stores`] : [` passed its store to ${location}`, ` passed store ${location}`, ` passed its ${location}`];
+  const [{ location }] = passed, passes = passed.length > 1 ? [` passed ${passed.length} stores`] : [` passed store ${location}`, ` passed its ${location}`];
   const notes = isOwn ? [' own store', ' own'] : [...passes, ' passed'];
   return nameOf(entry) + (notes.find(note => nameOf(entry).length + note.length <= letters) ?? '');
 }
@@ -84,25 +84,23 @@ function drawGrid(run, layout, entries) {
   return svg('g', {}, ...lanes, ...rows);
 }
 
-/** Over a store's bar: its name, or its place beside other bars. */
+/** Over the bar of a store that waits: its name, or its place beside other bars. */
 function nameOverBar({ tracks, trackOf, left }, store, top) {
   const isAlone = tracks < 2;
   return isAlone ? textAt({ x: left(store.core) + 3, y: top + 13, 'text-anchor': 'start' }, NOTE_FONT, nameOf(store)) :
     textAt({ class: 'faint', x: trackOf(store), y: top + 13 }, NOTE_FONT, String(store.place));
 }
 
-/** The bar of a store, under its name: dashed where it may have waited, full where it did; and its way to its entry. */
+/** The bar of a store: dashed where it may have waited, full where it did; and its way to its entry. */
 function drawWait(run, layout, store) {
   const { earliest, latest } = store.wait;
   const { top, pitch } = layout;
   const x = layout.trackOf(store), wide = Math.min(7, pitch * 0.7), head = pitch === TRACK.most ? 16 : 2;
   const bar = (kind, from, to) => svg('rect', { class: kind, x: x - wide / 2, y: from, width: wide, height: to - from });
-  const leaves = top(store.index) + (earliest < store.index ? 0 : head); // where there is no bar it begins under the name
-  const way = `M${x} ${leaves}V${layout.middle(store)}H${layout.boxOf(store).x}`;
+  const way = `M${x} ${top(store.index)}V${layout.middle(store)}H${layout.boxOf(store).x}`;
   const parts = [svg('title', {}, sentenceOf(run, store)), svg('path', { class: 'leaving', d: way })];
   if (earliest < latest) parts.push(bar('possible', top(earliest) + head, top(latest)));
   if (latest < store.index) parts.push(bar('certain', top(latest) + (earliest < latest ? 0 : head), top(store.index)));
-  if (head > 2) parts.push(nameOverBar(layout, store, top(earliest)));
   return svg('g', { class: 'wait', 'data-earliest': earliest, 'data-latest': latest, 'data-seen': store.index }, ...parts);
 }
 
@@ -142,12 +140,12 @@ function drawEntry(run, layout, entry) {
   const box = layout.boxOf(entry);
   const { passed } = entry;
   const kind = isWrite(entry) ? 'store' : passed.length > 0 ? 'load passed' : 'load';
-  const room = box.width - 10, letters = Math.floor(room / (LEAST_FONT * GLYPH)), noted = box.width - 2 * RING;
+  const font = noteFont(layout), room = box.width - 10, letters = Math.floor(room / (LEAST_FONT * GLYPH)), noted = box.width - 2 * RING;
   const x = box.x + box.width / 2;
   return svg('g', { class: kind, 'data-entry': entry.index, 'data-passed': passed.map(store => store.index).join(' ') },
     svg('title', {}, sentenceOf(run, entry)),
     svg('rect', { ...box, rx: isRead(entry) ? 16 : 2 }),
-    fittingText({ class: 'note', x, y: box.y + 0.4 * box.height }, noteFont(), noteOf(entry, Math.floor(noted / (noteFont() * GLYPH))), noted),
+    fittingText({ class: 'note', x, y: box.y + 0.4 * box.height }, font, noteOf(entry, Math.floor(noted / (Math.min(WORDY, font) * GLYPH))), noted),
     fittingText({ x, y: box.y + 0.8 * box.height }, layout.label, labelOf(entry, letters), room));
 }
 

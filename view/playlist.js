@@ -22,6 +22,12 @@ function entryKind() {
 
 const entryNow = () => ({ name: `${TITLES[testName()] ?? testName()}: ${entryKind()}`, address: currentAddress() });
 
+/** An entry's name where somebody wrote it, and not the page. */
+function ownNameOf({ name, address = '' }) {
+  const test = nameIn(new URLSearchParams(address).get('test')), [first, kind = 'run'] = name.split(': ');
+  return address === '' || (first === (TITLES[test] ?? test) && /^(the (run|test)(, (four protocols|two machines))?|[a-z]+)$/.test(kind)) ? '' : name;
+}
+
 const isUnstepped = () => currentCommand() === 'run' && drive.isOn && drive.words.length === 0 && !isExercise();
 
 /** Gives a test without choices those of the library, so that a lecture steps it. */
@@ -43,7 +49,7 @@ function addToList(before = taught.list.length) {
   const steps = isUnstepped() ? ' No choices to step.' : '';
   sayListed(`${isThere ? 'It is there already, as' : 'Added as'} ${playlist.at + 1}: ${shortName(one)}.${steps}${taught.list === playlist.saved ? '' : UNSAVED}`);
   byId('list-part').scrollIntoView({ block: 'nearest' });
-  if (currentCommand() === 'why' && !isListed('run')) document.querySelector('#way-back .listed').append(' ', listButton({ 'data-add-run': '', class: 'quiet' }, 'Add the run too'));
+  if (currentCommand() === 'why' && !isListed('run')) document.querySelector('#way-back .listed').append(' ', listButton({ 'data-add-run': '', class: 'main' }, 'Add the run too'));
 }
 
 /** Whether an entry has the test that is shown, with this command. */
@@ -61,12 +67,13 @@ function addRun() {
 }
 
 function updateListed() {
-  taught.list = taught.list.with(playlist.at, entryNow());
+  const { list } = taught, { at } = playlist, one = entryNow();
+  taught.list = list.with(at, { ...one, name: ownNameOf(list[at]) || one.name });
   drawList();
   sayListed(`It is ${playlist.at + 1} of ${taught.list.length} now.`);
 }
 
-const shortName = ({ name }) => name.replace(/: (.*)/, ' ($1)');
+const shortName = entry => ownNameOf(entry) || entry.name.replace(/: (.*)/, ' ($1)');
 
 function sayListed(sentence) {
   playlist.said = sentence === '' ? null : currentAddress();
@@ -157,7 +164,9 @@ function whereInList() {
   return isOfEntry(false) ? `${place}: ${plainName(list[at])}, ${currentCommand()}` : `Not in the lecture of ${all}`;
 }
 
-const plainName = ({ name }) => name.split(':')[0];
+const plainName = entry => ownNameOf(entry) || entry.name.split(':')[0];
+
+const listFile = kind => fileName(`${kind}-${plainName(taught.list[0]).toLowerCase()}`, '.html');
 
 /** The bar over the machine: which entry is shown, and the ways to the one before and the next. In a lecture the foot, which says what
  * PageDown does; there names tell no answer. */
@@ -184,6 +193,14 @@ function drawFoot() {
 }
 
 function drawList() {
+  drawOfList();
+  const way = (name, each, label, text, isOff) => [' ', listButton({ [`data-${name}`]: each, class: 'quiet', 'aria-label': label }, text, isOff)];
+  byId('list').replaceChildren(...taught.list.map(({ name }, each, { length }) => html('li', {}, listButton({ 'data-listed': each, class: 'quiet' }, name),
+    ...way('raised', each, `Move ${name} up`, 'up', each === 0), ...way('raised', each + 1, `Move ${name} down`, 'down', each === length - 1),
+    ...way('renamed', each, `Rename ${name}: in a lecture that is the headline`, 'rename'), ...way('unlisted', each, `Take ${name} off the lecture`, 'take off'))));
+}
+
+function drawOfList() {
   keepList();
   sayListed('');
   const { list } = taught;
@@ -192,25 +209,30 @@ function drawList() {
   document.querySelectorAll('[data-lecture]').forEach(nameLecture);
   byId('save-exercises').hidden = list.length < 2;
   drawBar();
-  byId('list').replaceChildren(...list.map(({ name }, each) => html('li', {}, listButton({ 'data-listed': each, class: 'quiet' }, name),
-    ' ', listButton({ 'data-raised': each, class: 'quiet', 'aria-label': `Move ${name} up` }, 'up', each === 0),
-    ' ', listButton({ 'data-raised': each + 1, class: 'quiet', 'aria-label': `Move ${name} down` }, 'down', each === list.length - 1),
-    ' ', listButton({ 'data-renamed': each, class: 'quiet', 'aria-label': `Rename ${name}` }, 'rename'),
-    ' ', listButton({ 'data-unlisted': each, class: 'quiet', 'aria-label': `Take ${name} off the lecture` }, 'take off'))));
   followShown();
 }
 
+/** Puts a field in the place of an entry's name until it is left; the other buttons stay, for who presses one then. */
 function renameListed(at) {
-  const item = byId('list').children[at], named = { 'aria-label': 'Name in the lecture', 'data-name-of': at };
-  const field = html('input', { type: 'text', inputmode: 'text', maxlength: MOST_NAME, ...named });
-  field.value = taught.list[at].name;
+  const item = byId('list').children[at], { name: old } = taught.list[at];
+  const field = html('input', { type: 'text', inputmode: 'text', maxlength: MOST_NAME, 'aria-label': 'Name in the lecture', 'data-name-of': at });
+  field.value = old;
   item.firstElementChild.replaceWith(field);
+  field.focus();
   field.select();
-  field.addEventListener('change', () => {
-    const name = field.value.trim();
-    if (name !== '') taught.list = taught.list.with(at, { ...taught.list[at], name });
-    drawList();
-    byId('list').children[at].firstElementChild.focus();
+  field.addEventListener('blur', () => {
+    const name = field.value.trim() || old;
+    taught.list = taught.list.with(at, { ...taught.list[at], name });
+    for (const each of item.querySelectorAll('button')) each.ariaLabel = each.ariaLabel.replace(old, () => name);
+    field.replaceWith(listButton({ 'data-listed': at, class: 'quiet' }, name));
+    drawOfList();
+  });
+  field.addEventListener('keydown', event => {
+    if (!['Enter', 'Escape'].includes(event.key)) return;
+    event.stopPropagation();
+    if (event.key === 'Escape') field.value = old;
+    field.blur();
+    item.firstElementChild.focus();
   });
 }
 

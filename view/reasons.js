@@ -78,7 +78,7 @@ const STEP_SENTENCES = {
   case: step => (step.answers ? `${caseWords(step.answers)}${step.closing ? `: ${lowered(closingSentence(step.closing))}` : ''}` : step.read ? `If ${step.read} reads ${eitherOf(step.from.map(sourceText))}` : `If ${step.first} reaches memory before ${step.second}`),
   so: step => (step.answers ? `So ${answersWords(step.answers)}${step.closing ? `: ${lowered(closingSentence(step.closing))}` : '.'}` : step.read ? `So ${step.read} reads ${eitherOf(step.from.map(sourceText))}.` : `So ${step.first} reaches memory before ${step.second}.`),
   endcases: () => 'No other case is left.',
-  given: ({ facts }) => `Asked for: ${listed(facts.map(factWords)).replace(new RegExp(EVENT_FORM, 'g'), eventWords)}.`,
+  given: ({ facts }) => `Asked for: ${listed(facts.map(factWords))}.`,
   never: ({ lemma, facts }) => `Lemma ${lemma}: it can't be that ${listed(facts.map(factWords))}.`,
   leaf: ({ closing }) => closingSentence(closing),
   ...CLOSING_SENTENCES,
@@ -126,7 +126,7 @@ const placeName = place => place.replace(/^(\d):(\w+)$/, 'P$1\'s $2');
 /** A step of a newer module: its name and what it holds. */
 const plainStep = ({ step: name, depth, ...held }) => `${name}: ${Object.values(held).map(value => (typeof value === 'string' ? value : JSON.stringify(value))).join(' ')}`;
 const sentenceBy = (sentences, step) => (Object.hasOwn(sentences, step.step) ? sentences[step.step](step) : plainStep(step));
-const stepSentence = step => sentenceBy(STEP_SENTENCES, step);
+const stepSentence = step => sentenceBy(STEP_SENTENCES, step).replace(new RegExp(EVENT_FORM, 'g'), eventWords);
 const closingSentence = closing => sentenceBy(CLOSING_SENTENCES, closing);
 
 /** What closes the case of a step: it stands in the step, or is the step. */
@@ -151,10 +151,10 @@ const cyclesOf = steps => steps.map((step, at) => ({ cycle: closingOf(step).cycl
 /** A tree as nested lists, of which each case folds. A cycle has a button that draws it. */
 function treeList(nodes, steps, isOpen) {
   return html('ul', { class: 'cases' }, ...nodes.map(({ step, parts }) => {
-    if (parts) return html('li', {}, html('details', isOpen ? { open: '' } : {}, html('summary', {}, ...unbroken(stepSentence(step))), treeList(parts, steps, isOpen)));
+    if (parts) return html('li', {}, html('details', isOpen ? { open: '' } : {}, html('summary', {}, stepSentence(step)), treeList(parts, steps, isOpen)));
     const at = steps.indexOf(step);
     const draw = closingOf(step).cycle ? [' ', html('button', { type: 'button', 'data-cycle': at, 'aria-pressed': 'false' }, 'Draw it')] : [];
-    return html('li', { class: `step-${step.step}`, 'data-step': at }, ...unbroken(stepSentence(step)), ...draw);
+    return html('li', { class: `step-${step.step}`, 'data-step': at }, stepSentence(step), ...draw);
   }));
 }
 

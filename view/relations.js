@@ -2,38 +2,41 @@
 
 // The relations between events that a reason is made of: one table of their names, and of what each edge says.
 
-/** Of each relation what it is (`means`), and what an edge of it says of its two events (`says`). */
+/** The words of an event after those of another one of its core. */
+const ofSame = (from, to) => (from.slice(0, 4) === to.slice(0, 4) ? `its ${to.slice(5)}` : to);
+
+/** Of each relation what it is (`means`), and what an edge of it says of its two events in words (`says`). */
 const RELATIONS = {
   po: {
     means: 'Program order: what a core does first is before what it does later. TSO keeps this order, except where a load comes after a store.',
-    says: (from, to) => `${from} stands before ${to} in the program of its core.`,
+    says: (from, to) => `${from} stands before ${ofSame(from, to)} in its program.`,
   },
   unkept: {
     label: 'po, not kept',
     short: 'po ✗',
     means: 'Program order from a store to a later load of another location: TSO doesn\'t keep it.',
-    says: (from, to) => `${from} stands before ${to} in the program of its core, and TSO doesn't keep that order.`,
+    says: (from, to) => `${from} stands before ${ofSame(from, to)} in its program. TSO doesn't keep this order.`,
   },
   rf: {
     means: 'Reads from: a write is before the read that returns its value.',
-    says: (from, to) => `${to} reads what ${from} wrote.`,
+    says: (from, to) => `${to} reads what ${ofSame(to, from)} wrote.`,
   },
   co: {
     means: 'Coherence: memory sees the writes to a location one after the other.',
-    says: (from, to) => `${from} reaches memory before ${to}, a write to the same location.`,
+    says: (from, to) => `${from} reaches memory before ${ofSame(from, to)}.`,
   },
   fr: {
     means: 'From read: it read the older value, so it came before the new one was written.',
-    says: (from, to) => `${from} read the older value, so it came before ${to} wrote the new one.`,
+    says: (from, to) => `${from} read the older value, so it came before ${to}.`,
   },
   mfence: {
     means: 'A fence: what is before it in the program is before what comes after it.',
-    says: (from, to) => `A fence stands between ${from} and ${to}, so it keeps their order.`,
+    says: (from, to) => `A fence stands between ${from} and ${ofSame(from, to)}, so it keeps their order.`,
   },
   implied: {
     label: 'lock',
-    means: 'A locked instruction (“implied” in the answer as text): it keeps the order of what is before it and after it, as a fence does.',
-    says: (from, to) => `A locked instruction keeps ${from} before ${to}.`,
+    means: 'A locked instruction: it keeps the order of what is before it and after it, as a fence does.',
+    says: (from, to) => `A locked instruction keeps ${from} before ${ofSame(from, to)}.`,
   },
 };
 
@@ -44,9 +47,6 @@ function eventOf(text) {
   const [, core, place, fence, kind = fence, location, value] = EVENT.exec(text);
   return { text, core: Number(core), place: Number(place), kind, location, value };
 }
-
-/** A sentence in parts, so that no name of an event breaks at the end of a line. */
-const unbroken = text => text.split(/(P\d:\d+ L?[RW] \w+(?:=\d+)?)/).map((part, at) => (at % 2 === 0 ? part : html('span', { class: 'unbroken' }, part)));
 
 /** What a module that is newer than the page may name. */
 const UNKNOWN_RELATION = { means: 'A relation that this page doesn\'t know.', says: (from, to) => `${from} comes before ${to}.` };
@@ -73,4 +73,4 @@ const arrowName = at => (at < 26 ? '' : arrowName(Math.floor(at / 26) - 1)) + St
 const lettersAt = (edges, at, isNarrow) => `${arrowName(at)} ${letterOf(edges[at].relation, isNarrow)}`;
 
 const relationNamed = name => (Object.hasOwn(RELATIONS, name) ? RELATIONS[name] : UNKNOWN_RELATION);
-const edgeSentence = ({ from, relation, to }) => relationNamed(relation).says(from, to);
+const edgeSentence = ({ from, relation, to }) => relationNamed(relation).says(eventWords(from), eventWords(to));

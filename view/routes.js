@@ -1,9 +1,9 @@
 'use strict';
 
 // The ways of edges between the boxes of events: beside the boxes of a core, in the gutters between the cores, and where cores lie between
-// in channels under the rows. So no way crosses a box or a word. All measures are pixels.
+// in channels under the rows. So no way crosses a box or a word, and no two share a stretch. All measures are pixels.
 
-const ROUTES = { apart: 14, bow: 0.8, inset: 10, turn: 8, channel: 24, sample: 4, samples: 48, chip: 18, letter: 8, around: 6 };
+const ROUTES = { apart: 14, bow: 0.64, inset: 10, turn: 8, channel: 24, sample: 4, samples: 48, chip: 18, letter: 8, around: 6, beside: 8 };
 
 /** Of each key how many are equal to it (`of`), and its place among these by rank (`number`). */
 const amongEquals = (keys, ranks = keys) => keys.map((key, at) => {
@@ -11,25 +11,43 @@ const amongEquals = (keys, ranks = keys) => keys.map((key, at) => {
   return { of: equals.length, number: equals.filter(each => ranks[each] < ranks[at] || (ranks[each] === ranks[at] && each < at)).length };
 });
 
-/** Which part of a width each takes that it shares with those of its key. */
-const shares = keys => amongEquals(keys).map(({ number, of }) => (number + 1) / (of + 1));
+/** The lanes of an edge's two events. */
+const lanesOf = ({ from, to }) => [from, to].map(text => eventOf(text).core);
 
-/** The ends of edges, start and end in turn: the event, and which of those at this side it is. */
-function endsOf(edges) {
-  const ends = edges.flatMap(({ from, to }) => [[from, to], [to, from]]).map(pair => pair.map(eventOf)), names = ends.map(([own]) => nameOfEvent(own.text));
-  const sides = ends.map(([own, other], at) => `${names[at]} ${Math.sign(other.core - own.core)}`);
-  return amongEquals(sides, ends.map(([, other]) => other.place)).map((among, at) => ({ name: names[at], ...among }));
+/** Of each edge within a core at which side of its lane its way is: 1 at the right, -1 at the left; 0 of others. A core's first way is nearer to the picture's
+ * edge. Of those at a side a shorter one reaches less far: such a `share` of what is there. */
+function ownWays(edges, cores) {
+  const lanes = edges.map(lanesOf).map(([from, to], at) => (from === to ? from : `other ${at}`));
+  const sides = amongEquals(lanes).map(({ number }, at) => (lanes[at] < cores ? (2 * lanes[at] < cores - 1 || cores === 1) === (number % 2 === 0) ? -1 : 1 : 0));
+  const lengths = edges.map(({ from, to }) => Math.abs(eventOf(from).place - eventOf(to).place));
+  return amongEquals(lanes.map((lane, at) => `${lane} ${sides[at]}`), lengths).map(({ number, of }, at) => ({ side: sides[at], share: (number + 1) / of }));
+}
+
+const INMOST = 100; // more than a program's rows
+
+/** One end of an edge: its event, its side of the box, and its rank there from the top: a way within a core is inside of others, a shorter one inmost. */
+function endOf([own, other], side, far) {
+  const isDown = other.place > own.place || (other.place === own.place && own.kind === 'LR');
+  const rank = side !== 0 ? (isDown ? INMOST : -INMOST) - other.place : far === null ? other.place : far.row + 0.5;
+  return { name: nameOfEvent(own.text), side: side || Math.sign(other.core - own.core), rank };
+}
+
+/** The ends of edges, start and end in turn, each with its number among those at its side of the box. */
+function endsOf(edges, cores) {
+  const own = ownWays(edges, cores), far = farEdges(edges);
+  const ends = edges.flatMap(({ from, to }, at) => [[from, to], [to, from]].map(pair => endOf(pair.map(eventOf), own[at].side, far[at])));
+  return amongEquals(ends.map(({ name, side }) => `${name} ${side}`), ends.map(({ rank }) => rank)).map((among, at) => ({ ...among, name: ends[at].name }));
 }
 
 /** How high an event's box is, so that the edges at it lie apart. */
-function heightsOfBoxes(edges) {
-  const ends = endsOf(edges);
+function heightsOfBoxes(edges, cores) {
+  const ends = endsOf(edges, cores);
   return ({ text }) => EVENTS.box + ROUTES.apart * Math.max(0, ...ends.map(({ name, of }) => (name === nameOfEvent(text) ? of - 2 : 0)));
 }
 
 /** Where ways touch boxes: for each edge the heights of its start and its end. Those that touch one side of a box lie apart there. */
 function portsOf(layout, edges) {
-  const heights = endsOf(edges).map(({ name, number, of }) => layout.boxes.get(name).y + layout.boxes.get(name).height / 2 + ROUTES.apart * (number - (of - 1) / 2));
+  const heights = endsOf(edges, layout.cores).map(({ name, number, of }) => layout.boxes.get(name).y + layout.boxes.get(name).height / 2 + ROUTES.apart * (number - (of - 1) / 2));
   return edges.map((_, at) => heights.slice(2 * at, 2 * at + 2));
 }
 
@@ -68,39 +86,56 @@ function linesWay(corners) {
   return { d: `M${corners[0].join(' ')}${turns.join('')}L${corners.at(-1).join(' ')}`, points: alongLines(corners) };
 }
 
-/** Beside the boxes of one core: the first of its edges on the side of its lane that is nearer to the picture's edge, the next on the other. */
-function wayOfOneCore(layout, start, end, [y1, y2], number) {
-  const isNear = number % 2 === 0, isLeft = (2 * start.event.core < layout.cores - 1 || layout.cores === 1) === isNear, out = isLeft ? -1 : 1;
-  const x1 = isLeft ? start.x : start.x + start.width, x2 = isLeft ? end.x - 3 : end.x + end.width + 3, bow = out * layout.side * (ROUTES.bow - 0.2 * Math.floor(number / 2) % 0.6);
+/** Where a box's side is (-1: the left one), or what is so far beside it. */
+const sideOf = (box, side, apart = 0) => (side < 0 ? box.x - apart : box.x + box.width + apart);
+
+/** Beside the boxes of one core. */
+function wayOfOneCore(layout, start, end, [y1, y2], { side, share }) {
+  const x1 = sideOf(start, side), x2 = sideOf(end, side, 3), bow = side * share * ROUTES.bow * layout.side;
   return curveWay([[x1, y1], [x1 + bow, y1], [x2 + bow, y2], [x2, y2]]);
 }
 
-/** Through the gutter between two cores that stand side by side, in such a part of its width. */
-function wayThroughGutter(start, end, [y1, y2], isRight, part) {
-  const x1 = isRight ? start.x + start.width : start.x, x2 = isRight ? end.x - 3 : end.x + end.width + 3, x = x1 + (x2 - x1) * (isRight ? part : 1 - part);
-  return curveWay([[x1, y1], [x, y1], [x, y2], [x2, y2]]);
+/** Through the gutters beside both boxes, each so far from its left end (`tracks`); where cores lie between, through a channel under a row. */
+function wayOfTwoCores(layout, start, end, [y1, y2], far, tracks) {
+  const side = Math.sign(end.event.core - start.event.core), leftOf = (box, at) => sideOf(box, at) - (at < 0 ? 2 * layout.side : 0);
+  const x1 = sideOf(start, side), x2 = sideOf(end, -side, 3), near = leftOf(start, side) + tracks[0], last = leftOf(end, -side) + tracks[1];
+  if (far === null) return curveWay([[x1, y1], [near, y1], [near, y2], [x2, y2]]);
+  const y = layout.tops[far.row + 1] - layout.channels[far.row] * ROUTES.channel + (far.at + 0.5) * ROUTES.channel - ROUTES.around;
+  return linesWay([[x1, y1], [near, y1], [near, y], [last, y], [last, y2], [x2, y2]]);
 }
 
-/** Through the gutters beside both boxes and a channel under a row, past the cores between. */
-function wayThroughChannel(layout, start, end, [y1, y2], { isRight, row, at, tracks }) {
-  const out = isRight ? 1 : -1, [inset, endInset] = tracks.map((part, end) => ROUTES.inset + (isRight === (end === 0) ? part : 1 - part) * 2 * (layout.side - ROUTES.inset));
-  const x1 = isRight ? start.x + start.width : start.x, x2 = isRight ? end.x - 3 : end.x + end.width + 3;
-  const y = layout.tops[row + 1] - layout.channels[row] * ROUTES.channel + (at + 0.5) * ROUTES.channel - ROUTES.around;
-  const [near, far] = [x1 + out * inset, x2 - out * endInset];
-  return linesWay([[x1, y1], [near, y1], [near, y], [far, y], [far, y2], [x2, y2]]);
+const TRACKS = { row: 1e4, zone: 1e6 };
+
+/** Which gutter each edge goes through, and its rank there from the left: what goes past other cores is nearer to its box than what goes between these two, and
+ * nearest is what turns off first. Two entries for each edge. */
+function tracksWanted(edges, far, ports) {
+  return edges.flatMap((edge, at) => {
+    const [from, to] = lanesOf(edge);
+    if (far[at] === null) return [from === to ? {} : { gutter: Math.min(from, to), rank: 0 }, {}];
+    return [edge.from, edge.to].map(eventOf).map(({ core, place }, end) => {
+      const isAtLeft = from < to === (end === 0), y = ports[at][end], away = place - far[at].row - 0.5, near = TRACKS.row * Math.abs(away) + (away > 0 ? y : -y);
+      return isAtLeft ? { gutter: core, rank: near - TRACKS.zone } : { gutter: core - 1, rank: TRACKS.zone - near };
+    });
+  });
+}
+
+/** How far from a gutter's left end each edge goes down or up there: apart from others, and from the ways within a core. Two entries for each edge. */
+function tracksOf(layout, edges, ports, own) {
+  const wanted = tracksWanted(edges, layout.far, ports), ranks = wanted.map(({ rank }) => rank);
+  const owners = new Set(edges.map((edge, at) => `${lanesOf(edge)[0]} ${own[at].side}`));
+  const inset = (core, side) => (owners.has(`${core} ${side}`) ? 0.75 * ROUTES.bow * layout.side + ROUTES.beside : ROUTES.inset);
+  return amongEquals(wanted.map(({ gutter }) => gutter), ranks).map(({ number, of }, at) => {
+    const { gutter } = wanted[at], first = inset(gutter, 1), last = 2 * layout.side - inset(gutter + 1, -1);
+    return first + (last - first) * (number + 1) / (of + 1);
+  });
 }
 
 /** The way of each edge: its path, and points along it. */
 function edgeWays(layout, edges) {
-  const ports = portsOf(layout, edges), [froms, tos] = ['from', 'to'].map(end => edges.map(edge => eventOf(edge[end]).core));
-  const ofCore = amongEquals(edges.map((_, at) => (froms[at] === tos[at] ? froms[at] : `other ${at}`)));
-  const tracks = shares(edges.flatMap((_, at) => (layout.far[at] === null ? ['', ''] : froms[at] < tos[at] ? [froms[at], tos[at] - 1] : [froms[at] - 1, tos[at]])));
-  const parts = shares(edges.map((_, at) => (layout.far[at] === null && froms[at] !== tos[at] ? Math.min(froms[at], tos[at]) : '')));
+  const ports = portsOf(layout, edges), own = ownWays(edges, layout.cores), tracks = tracksOf(layout, edges, ports, own);
   return edges.map(({ from, to }, at) => {
-    const [start, end] = [from, to].map(text => layout.boxes.get(nameOfEvent(text))), isRight = start.event.core < end.event.core;
-    if (start.event.core === end.event.core) return wayOfOneCore(layout, start, end, ports[at], ofCore[at].number);
-    if (layout.far[at] === null) return wayThroughGutter(start, end, ports[at], isRight, parts[at]);
-    return wayThroughChannel(layout, start, end, ports[at], { ...layout.far[at], isRight, tracks: tracks.slice(2 * at, 2 * at + 2) });
+    const [start, end] = [from, to].map(text => layout.boxes.get(nameOfEvent(text)));
+    return own[at].side !== 0 ? wayOfOneCore(layout, start, end, ports[at], own[at]) : wayOfTwoCores(layout, start, end, ports[at], layout.far[at], tracks.slice(2 * at, 2 * at + 2));
   });
 }
 
@@ -117,7 +152,7 @@ function roomOfChip({ isNarrow, margin, lane, side, width }, x) {
 
 /** The rectangle of a chip of some letters around a point. */
 function chipAt(layout, [x, y], letters) {
-  const width = letters * ROUTES.letter + ROUTES.around, [from, to] = roomOfChip(layout, x), near = Math.min(width / 2 + 5, (to - from) / 2);
+  const width = letters * ROUTES.letter + ROUTES.around, [from, to] = roomOfChip(layout, x), near = Math.min(width / 2 + 8, (to - from) / 2);
   const centre = Math.min(Math.max(x, from + near), to - near);
   return { x: centre - width / 2, y: y - ROUTES.chip / 2, width, height: ROUTES.chip };
 }

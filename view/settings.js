@@ -16,7 +16,7 @@ const SETTINGS = {
 const CHOSEN = ['protocol', 'bus', 'model'];
 /** What each command answers. */
 const ANSWERS_OF = {
-  run: 'One run, made by your choices.', outcomes: 'All outcomes, with choices that lead to each.',
+  run: 'One run, made by your choices.', outcomes: 'All final values of what the condition names, with choices that lead to each.',
   sweep: 'How often each outcome comes, in the runs of many seeds.', counts: 'What the caches did, in the runs of many seeds.',
   check: 'Whether an order is one of TSO.', witness: 'Choices that lead to an order.', tables: 'The table of a protocol.',
   why: 'Why the end that is asked for can\'t be, or how it can.',
@@ -68,12 +68,12 @@ function showSettings(command) {
   byId('begin').textContent = BEGINS[command] ?? '';
 }
 
-/** The settings that aren't the defaults, as words of an address and of a command line go by them. */
+/** The settings that aren't the defaults, for an address or a command line. */
 function changedSettings() {
   return SET_NAMES.filter(name => isSet(name) && valueOf(name) !== SET_AT_FIRST[name]).map(name => [name, String(valueOf(name))]);
 }
 
-/** Puts settings into the fields: those of the pairs, and the defaults for all others. A value that no field takes is left out. */
+/** Puts settings into the fields, and the default of each other or where no field takes a value. */
 function putSettings(pairs) {
   const given = new Map(pairs);
   for (const name of SET_NAMES) {
@@ -83,7 +83,7 @@ function putSettings(pairs) {
   }
 }
 
-/** The settings that an example or a run of an answer set: each with its value, and with the one that comes back with another test. */
+/** What an example or an answer's run set: each value, and the one that comes back with another test. */
 const lent = new Map();
 
 function lendSetting(name, value, own) {
@@ -105,14 +105,14 @@ function putCommand(name) {
   showSettings(commandOf(name));
 }
 
-/** The one line that stands for the test while it is folded: its name, the command where it isn't run, and the machine. */
+/** The one line that stands for the test while it is folded: its name; and where another command is chosen than run, that with its machine. */
 function showTestLine(command) {
   const { options = Tso.DEFAULTS } = readSettings(command);
   const on = !SETTINGS[command].includes('bus') ? '' : showsCaches([options]) ? machineTitle(options) : plainMachineName(options);
-  putText(byId('test-line'), testName() + (isLecture() ? '' : `: ${[command === 'run' ? '' : command, on].filter(Boolean).join(', ')}`));
+  putText(byId('test-line'), testName() + (isLecture() || command === 'run' ? '' : `: ${[command, on].filter(Boolean).join(', ')}`));
 }
 
-/** The words of the command line that asks the same. The page reads all instructions, and the program those of the grammar where it isn't told. */
+/** The words of the command line that asks the same. The program reads all instructions only where it is told. */
 function commandWords(command) {
   const { options = { command } } = readSettings(command);
   const changed = Object.entries(options).filter(([name, value]) => {

@@ -59,12 +59,12 @@ async function saveWhole(name, makePage, more) {
   saveText(name, await makePage(), 'text/html', more);
 }
 
-/** The page with what is shown; with a list of tests it is named by these. */
+/** The page with what is shown; with a list of tests it is named by the first of these. */
 function savePage() {
   const tests = taught.list.length;
   playlist.saved = taught.list;
   for (const place of document.querySelectorAll('.listed')) putText(place, place.textContent.replace(UNSAVED, ''));
-  return saveWhole(tests > 1 ? `lecture-of-${tests}-entries.html` : fileName(pictureName(), '.html'), () => wholePage(addressNow()));
+  return saveWhole(tests > 1 ? listFile('lecture') : fileName(pictureName(), '.html'), () => wholePage(addressNow()));
 }
 
 SAVES.page = savePage;

@@ -1,6 +1,6 @@
 'use strict';
 
-// The table of final states: sorted by a column, with those rows alone that a filter finds, and the row marked whose run is shown.
+// The table of final states: sorted, filtered, and the row marked whose run is shown.
 
 /** The words of a row without its button. */
 const rowWords = row => [...row.cells].slice(0, -1).map(cell => cell.textContent).join(' ').toLowerCase();
@@ -53,7 +53,7 @@ const MOST_TRIED = 24; // states whose choices are tried in one's own store buff
 /** That a line of locations, as herd's tests have it, adds no column. */
 const placesNote = () => (/^\s*locations\b/m.test(byId('test').value) ? [html('p', { class: 'small faint' }, 'The line “locations” adds no column: name a place in the condition to see it.')] : []);
 
-/** Says before it is pressed that a run of the table has other store buffers than one's own, where one has no room in these. */
+/** Says beforehand that a run of the table has other store buffers, where one has no room in one's own. */
 function depthNote({ states, depth }) {
   const { options } = readSettings('run');
   if (options === undefined || options.depth === depth) return [];
@@ -71,6 +71,10 @@ function keySaid(names) {
 /** The table of states with what sorts and filters it. */
 function statesSheet(outcomes, sequential, truths) {
   const table = outcomesTable(outcomes, sequential, truths);
+  const [first = '0:EAX'] = Object.keys(outcomes.states[0].values), buttons = table.querySelectorAll('.goes');
+  const isOther = outcomes.states.some(({ choices }, at) => choices !== buttons[at].dataset.choices);
+  const ways = isOther ? [html('p', { class: 'small faint ways-said' }, 'The table has choices that are easy to follow; the answer as text has those that the search met first.')] : [];
+  table.querySelector('tbody').prepend(...table.querySelectorAll('.met')); // what is sought comes first
   for (const head of [...table.querySelectorAll('thead th')].slice(0, -1)) head.replaceChildren(html('button', { type: 'button', class: 'sorts' }, head.textContent));
   const { programs: told } = readTest(inputOf('outcomes')), { names = [], lines = [] } = inC(told) ?? {}, isFew = names.flatMap(Object.keys).length <= MOST_NAMED;
   for (const head of table.querySelectorAll('thead th')) {
@@ -78,7 +82,7 @@ function statesSheet(outcomes, sequential, truths) {
     if (named) for (const part of [head, ...table.querySelectorAll(`td[data-name="${head.textContent}"]`)]) part.dataset.c = named;
   }
   for (const button of table.querySelectorAll('thead .sorts')) if (Object.hasOwn(MEANINGS, button.textContent)) button.dataset.means = button.textContent;
-  const filter = html('input', { class: 'filter', type: 'search', autocomplete: 'off', placeholder: '0:EAX=1' });
+  const filter = html('input', { class: 'filter', type: 'search', autocomplete: 'off', placeholder: `${first}=1` });
   const alone = sequential ? [html('label', {}, html('input', { class: 'alone', type: 'checkbox' }), ' TSO alone')] : [];
   const tools = html('div', { class: 'buttons small' }, html('label', {}, 'Filter ', filter), ...alone, html('span', { class: 'filtered', role: 'status' }));
   const more = html('button', { type: 'button', class: 'more-rows', hidden: '' });
@@ -89,7 +93,7 @@ function statesSheet(outcomes, sequential, truths) {
   programs.querySelectorAll('code').forEach((code, at) => lines.length > 0 && setAll(code, { 'data-c': lines.flat()[at] }));
   const isBroad = Object.keys(outcomes.states[0].values).length > FEW_COLUMNS || programs.childElementCount > MANY_CORES;
   const sheet = html('div', { class: isBroad ? 'states-sheet broad' : 'states-sheet' }, programs,
-    html('div', { class: 'states-told' }, ...(outcomes.states.length > 1 ? [tools] : []), table, more), html('div', { class: 'states-notes' }, ...words, key, ...depthNote(outcomes), ...placesNote()));
+    html('div', { class: 'states-told' }, ...(outcomes.states.length > 1 ? [tools] : []), table, more), html('div', { class: 'states-notes' }, ...words, key, ...ways, ...depthNote(outcomes), ...placesNote()));
   if (outcomes.states.length > 1) filterStates(sheet);
   return [sheet];
 }

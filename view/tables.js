@@ -12,13 +12,14 @@ function numbersTable(caption, titles, rows) {
     html('th', { scope: 'row', class: 'wraps' }, name), ...numbers.map(number => html('td', { class: 'number' }, String(number))))));
 }
 
-/** What a run left: the registers of these names, memory, and what the caches counted. */
-function finalTables(run, names = REGISTERS) {
-  const cores = run.registers.map((_, core) => `P${core}`), counts = numbersTable('Cache accesses', ['', ...cores], COUNTS.map(name => [withMeaning({}, name, name.replace('_', '-')), ...run.cache.map(each => each.get(name))]));
+/** What a run left: registers that are used, memory, and counts of caches, of the machine `whose`. */
+function finalTables(run, used = run.registers.map(() => REGISTERS), whose = '') {
+  const names = REGISTERS.filter(name => used.flat().includes(name)), wordsOf = name => run.registers.map((file, core) => (used[core].includes(name) ? file.get(name) : '–'));
+  const cores = run.registers.map((_, core) => `P${core}`), counts = numbersTable(`Cache accesses${whose}`, ['', ...cores], COUNTS.map(name => [withMeaning({}, name, name.replace('_', '-')), ...run.cache.map(each => each.get(name))]));
   counts.classList.add('of-caches');
   return [
-    ...(names.length === 0 ? [] : [numbersTable('Registers', ['', ...cores], names.map(name => [name, ...run.registers.map(file => file.get(name))]))]),
-    numbersTable('Memory', ['Location', 'Word'], [...run.memory]),
+    ...(names.length === 0 ? [] : [numbersTable(`Registers${whose}`, ['', ...cores], names.map(name => [name, ...wordsOf(name)]))]),
+    numbersTable(`Memory${whose}`, ['Location', 'Word'], [...run.memory]),
     counts,
   ];
 }

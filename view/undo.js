@@ -28,6 +28,7 @@ function remember(event) {
     const field = event?.type === 'input' ? event.target.id : null, isOneEdit = field !== null && field === undoing.field && event.timeStamp - undoing.time < TYPED_TOGETHER;
     if (!isOneEdit) past.push(before);
     if (past.length > MOST_UNDONE) past.shift();
+    if (isSameSnapshot(past.at(-1) ?? {}, now)) past.pop(); // what was typed was taken back by hand
     Object.assign(undoing, { future: [], field, time: event?.timeStamp ?? 0 });
   }
   undoing.now = now;
@@ -59,14 +60,17 @@ function turn(from, to) {
 }
 
 /** What an act changed, by the parts in which two snapshots differ; the first of them alone. */
-const CHANGED_WORDS = { command: 'what was asked', test: 'an edit of the test', given: 'an edit of the order', choices: 'a choice', settings: 'a setting', beside: 'what stands beside the machine', caches: 'whether caches are in sight' };
+const CHANGED_WORDS = { command: 'what was asked', test: 'the change of the test', given: 'the change of the order', choices: 'a choice', settings: 'a setting', beside: 'what stands beside the machine', caches: 'whether caches are in sight' };
+
+/** What is different between two snapshots, in words; undefined where nothing is. */
+const changeSaid = (one, other) => Object.entries(CHANGED_WORDS).find(([name]) => JSON.stringify(one[name]) !== JSON.stringify(other[name]))?.[1];
 
 /** Goes one act back or forward, and says in the sentence over the machine which it was. */
 function turnAndSay(from, to, word) {
   const before = snapshotNow();
   turn(from, to);
-  const name = Object.keys(CHANGED_WORDS).find(each => JSON.stringify(before[each]) !== JSON.stringify(undoing.now[each]));
-  if (drive.isOn && name !== undefined) sayOfDriving(`${word}: ${CHANGED_WORDS[name]}. ${byId('sentence').textContent}`);
+  const said = changeSaid(before, undoing.now);
+  if (drive.isOn && said) sayOfDriving(`${word}: ${said}. ${byId('sentence').textContent}`);
 }
 
 const undo = () => turnAndSay(undoing.past, undoing.future, 'Undone');
@@ -87,15 +91,20 @@ function lastSnapshots(snapshots, room) {
 
 const undoingToKeep = () => ({ past: lastSnapshots(undoing.past, MOST_KEPT), future: lastSnapshots(undoing.future, MOST_KEPT) });
 
-/** Takes what can be undone from what the browser kept, after a reload. */
+/** Takes what can be undone, and what lessons are done, from what the browser kept. */
 function takeUndoing(state) {
   const { past, future } = state?.undoing ?? {};
+  if (Array.isArray(state?.done)) state.done.forEach(part => doneParts.add(part));
+  markLessons();
   if (Array.isArray(past) && Array.isArray(future)) Object.assign(undoing, { past, future });
 }
 
+/** Each button says at the pointer what it would change. */
 function showUndoing() {
-  byId('undo').disabled = undoing.past.length === 0;
-  byId('redo').disabled = undoing.future.length === 0;
+  for (const [id, { length, [length - 1]: to }] of [['undo', undoing.past], ['redo', undoing.future]]) {
+    byId(id).disabled = length === 0;
+    byId(id).title = to && undoing.now ? `${byId(id).textContent}: ${changeSaid(to, undoing.now)}` : '';
+  }
 }
 
 // One's own run, which an answer's run takes the place of.
@@ -160,6 +169,4 @@ document.addEventListener('keydown', event => {
   if (isUndone) undo();
   else redo();
 });
-byId('undo').addEventListener('click', undo);
-byId('redo').addEventListener('click', redo);
-byId('own-back').addEventListener('click', backToOwnRun);
+onPress({ undo, redo, 'own-back': backToOwnRun });

@@ -13,7 +13,7 @@ function whySaid() {
 /** Whether `why`, in sight or behind, found that what a test asks for can be; null where it told nothing. */
 const whyCan = test => (possible.refuted === test ? false : possible.found === test || (possible.test === test && !isUnanswered() ? possible.can : null));
 
-/** Above what is said of a search that didn't end (`sentence`) the answer to the condition, where what was met (`states`), or `why`, decides it. */
+/** What is said of a search that didn't end; above it the answer to the condition, where what was met, or `why`, decides it. */
 function openVerdict(states, sentence) {
   const test = inputOf('why'), quantifier = quantifierOf(test), isForall = quantifier === 'forall', known = currentCommand() === 'why' ? null : whyCan(test);
   const can = states.some(({ holds }) => holds === !isForall) || (known === true && valueOf('searched') !== SET_AT_FIRST.searched ? null : known); // a run of `why` may need deep buffers
@@ -22,7 +22,7 @@ function openVerdict(states, sentence) {
   return [html('p', { role: 'status' }, verdictOf(asClaimed(can, quantifier, wanted))), ...termsPart(wanted), html('p', {}, sentence)];
 }
 
-/** What one can do where a limit was too low, or where somebody stopped the work (`met` final states are known then): buttons and words. */
+/** What one can do where a limit was too low, or work was stopped (`met` final states are known then). */
 function waysOn(command, { isStopped = false, met = 0, among } = {}) {
   const found = whySaid(), name = LIMIT_OF[command], most = Number(settingOf(name).max), next = Math.min(most, MORE * valueOf(name));
   const button = (attributes, text) => html('button', { type: 'button', ...attributes }, text);

@@ -34,20 +34,23 @@ const FEW_PASSES = 3; // of a run that did a task
 
 const ORDINALS = ['first', 'second', 'third', 'fourth', 'fifth', 'sixth', 'seventh', 'eighth'];
 
-/** How events are named, by one of an answer, and those kinds that it names. */
-function eventsSaid(text) {
-  const [name, core, place] = /P(\d):([1-7])(?= [RWLF])/.exec(text) ?? ['P0:1', '0', '1'];
-  const locked = / L[RW] /.test(text) ? ', LR and LW are the two parts of a locked instruction' : '', fence = /:\d+ F\b/.test(text) ? ', F is a fence' : '';
-  return `${name} is the ${ORDINALS[place]} instruction of P${core}: programs count from 0. R is a load, W a store${locked}${fence}.`;
+/** How code names count, by one of them in a text; empty where it has none. */
+function codesSaid(text) {
+  const [name, core, place] = /P(\d):([0-7])(?!\d)/.exec(text) ?? [];
+  return name ? ` ${name} is the ${ORDINALS[place]} instruction of P${core}: programs count from 0.` : '';
 }
 
-const keyOfEdges = edges => eventsSaid(edges.map(({ from, to }) => `${from} ${to}`).join(' ')) + readAsSaid(sheet.test);
+/** What the letters in the boxes of a picture are, and how to read the words beside it. */
+function keyOfEdges(edges, words) {
+  const isLocked = eventsOf(edges).some(({ kind }) => kind[0] === 'L');
+  return `W: a store. R: a load.${isLocked ? ' LR and LW: the two parts of a locked instruction.' : ''}${codesSaid(words + (document.querySelector('.tree')?.textContent ?? ''))}${readAsSaid(sheet.test)}`;
+}
 
 const READ_AS = { INC: 'ADD', DEC: 'SUB' };
 
 /** Which instructions of a test are read as others. */
 function readAsSaid(test) {
-  const found = new Set(test.match(/\b(?:LOCK +)?(?:INC|DEC) [\w[\]]+/gi));
+  const found = new Set(test.match(/\b(?:LOCK +)?(?:INC|DEC) +(?:\[\w+\]|[ER]?(?:[A-D]X|[SD]I)\b)/gi));
   return [...found].map(text => ` ${text} is read as ${text.replace(/INC|DEC/i, verb => READ_AS[verb.toUpperCase()])},$1.`).join('');
 }
 
@@ -75,8 +78,8 @@ function showReason(answer, test, beside) {
   showQuestion(test);
   showFromBehind();
   const isDrawn = section.querySelector('figure') !== null, terms = html('p', { class: 'terms' }, html('strong', {}, 'In litmus terms: '), reasonSentence(told, proposition));
-  if (!isDrawn) section.querySelector('[role=status]').after(html('p', { class: 'small faint' }, eventsSaid(answer.text), readAsSaid(test)));
-  section.append(sheetTools(isDrawn, run), html('details', { class: 'in-tables' }, html('summary', {}, 'More about this answer'), ...more, terms));
+  if (!isDrawn) section.querySelector('[role=status]').after(html('p', { class: 'small faint' }, codesSaid(section.textContent), readAsSaid(test)));
+  section.append(sheetTools(isDrawn, run), html('details', { class: 'in-tables' }, html('summary', {}, 'More about this answer'), ...more, terms, html('p', { class: 'small faint' }, codesSaid(answer.text))));
 }
 
 /** An answer's first sentence, with a sign before a yes and a no. */
@@ -131,7 +134,7 @@ function sheetTools(isDrawn, run) {
   const save = (kind, name) => html('button', { type: 'button', class: 'quiet', 'data-save': `reason-${kind}` }, name);
   const saves = isDrawn ? [save('svg', 'Save the picture as SVG'), save('png', 'as PNG'), colours] : [];
   const link = html('button', { type: 'button', class: 'quiet', 'data-copy-link': '' }, 'Copy the link');
-  return html('p', { class: 'buttons tools' }, ...run, ...saves, link, lectureButton(), html('span', { class: 'page-saved', role: 'status' }));
+  return html('p', { class: 'buttons tools' }, ...run, html('span', { class: 'of-sheet' }, ...saves, link, lectureButton()), html('span', { class: 'page-saved', role: 'status' }));
 }
 
 const FEW_TOGETHER = 4; // leaves of a low tree
@@ -159,20 +162,20 @@ function allowedParts(answered, programs, proposition, beside) {
   const isMany = few.length > 0 && edges.length > (cycle.length > 0 ? FEW_BESIDE : MANY_EDGES);
   const run = html('button', { type: 'button', 'data-choices': choices, 'data-depth': DEPTH_OF[model] }, 'Run it');
   const isOpen = edgesOfPrograms(executed, programs).some(({ relation, to }) => relation === 'unkept' && !loads.some(({ text }) => nameOfEvent(text) === nameOfEvent(to)));
-  const { said, more } = passesPart(loads, own.said, cycle, { isToo, isMany, isOpen }), note = isCalm ? [html('p', {}, 'The answer as text has a run of its own.')] : [];
+  const { said: passing, more } = passesPart(loads, own.said, cycle, { isToo, isMany, isOpen }), note = isCalm ? [html('p', {}, 'The answer as text has a run of its own.')] : [];
   return {
-    said: [...sequentialPart(sequential, isCalm && loads.length === 0), ...said],
-    drawn: executionPart(programs, edges, isMany ? few : edges, cycle),
+    said: sequentialPart(sequential, isCalm && loads.length === 0),
+    drawn: executionPart(programs, edges, isMany ? few : edges, cycle, passing),
     run: [html('span', { class: 'of-run' }, run, ...choicesPart(choices))],
     more: [...more, html('div', { class: 'beside' }, ...executionTables(told.asked === null ? { ...told, values: { ...registersAtEnd(choices, programs, model), ...told.values } } : told)), ...note],
   };
 }
 
-/** An execution that is drawn, edge by edge: first its forbidden cycle, if it has one. */
-function executionPart(programs, edges, few, cycle) {
+/** An execution that is drawn, edge by edge: first its forbidden cycle, if it has one. What is told `beside` it stands under its legend. */
+function executionPart(programs, edges, few, cycle, beside) {
   if (edges.length === 0) return [];
-  const [first] = cycle, end = first && `So this run needs store buffers: without them ${eventWords(first.from)} would be before itself. TSO doesn't keep the dashed arrows.`;
-  const told = { end: end ?? '', name: 'The execution', closed: cycle.length, arrow: 'without store buffers, ' };
+  const [first] = cycle, end = first && `So this run needs store buffers: without them ${eventWords(first.from)} would be before itself. TSO doesn't keep the dashed arrow${cycle.filter(({ relation }) => relation === 'unkept').length > 1 ? 's' : ''}.`;
+  const told = { end: end ?? '', name: 'The execution', closed: cycle.length, arrow: 'comes before, if there were no store buffers', beside };
   const panelOf = (shown, isPicked) => new CyclePanel(programs, shown, isPicked ? { ...told, end: '', closed: 0 } : told);
   return [drawExecution(programs, edges, few, panelOf, first ? 'a cycle that needs store buffers' : 'those at what is asked for')];
 }
@@ -227,9 +230,12 @@ function passEdges(loads, executed, cycle) {
   });
 }
 
+/** What a load passed in sentences, with code names where its own words name another one too. */
+const passWords = load => passSentences(load).map(each => (eventWords(load.text).endsWith(')') ? each : each.replace(/ \(.*\)/, '')));
+
 /** What loads passed in the run that a sentence names so, and what keeps such an order. Of many those of the cycle, and the others with what is told in the fold. `isOpen`: others may pass. */
 function passesPart(loads, named, cycle, { isToo, isMany, isOpen }) {
-  const passes = toldFirst(loads, cycle).flatMap(passSentences), isOne = loads.length === 1;
+  const passes = toldFirst(loads, cycle).flatMap(passWords), isOne = loads.length === 1;
   if (passes.length === 0) return { said: [], more: [] };
   const title = isOne ? 'A load passes a store' : 'Loads pass stores', rest = passes.splice(isMany ? Math.max(1, loads.filter(load => isOfCycle(load, cycle)).length) : MOST_PASSES);
   const others = `In another run that ends so, other loads may pass${isToo ? ', or none' : ''}.`;
@@ -237,7 +243,7 @@ function passesPart(loads, named, cycle, { isToo, isMany, isOpen }) {
   const list = rest.length === 0 ? []
     : [html('p', {}, `${rest.length} more of this run${isMany ? ', which the cycle doesn\'t have' : ''}:`), html('ul', {}, ...rest.map(each => html('li', {}, each)))];
   return {
-    said: [html('p', { class: 'passing' }, html('strong', {}, `${title} in ${named}: `), ...unbroken(passes.join(' ') + (rest.length > 0 ? ` And ${rest.length} ${rest.length === 1 ? 'other' : 'others'}.` : '') + enough + cure))],
+    said: [html('p', { class: 'passing' }, html('strong', {}, `${title} in ${named}: `), passes.join(' ') + (rest.length > 0 ? ` And ${rest.length} ${rest.length === 1 ? 'other' : 'others'}.` : '') + enough + cure)],
     more: [html('p', {}, isToo ? others : `A load that passes a store is the one change of a program's order that TSO allows.${isOpen ? '' : ` ${others}`}`), ...list],
   };
 }

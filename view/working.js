@@ -8,7 +8,7 @@ const working = { since: 0, asker: null, clock: null, progress: null };
 const secondsWorked = () => Math.floor((Date.now() - working.since) / 1000);
 const grouped = count => count.toLocaleString('en');
 
-/** How far a search comes by now, if it goes on as fast as up to what it told last: it begins anew with each higher limit. */
+/** How far a search is by now, if as fast as before: it begins anew with each higher limit. */
 function estimated({ count, next, at, took }) {
   const reached = Math.min(next, count * (Date.now() - at) / Math.max(1, took)), step = 10 ** Math.max(0, Math.floor(Math.log10(Math.max(1, reached))) - 1);
   return Math.max(count, Math.floor(reached / step) * step);
@@ -46,7 +46,7 @@ function tellProgress(progress) {
   showWorking();
 }
 
-/** Puts what is said of stopped work under the button that began it, where that stands beside the test; else where the work was shown. */
+/** Puts what is said of stopped work where that was begun beside the test, or was shown. */
 function placeStopped() {
   const box = byId('stopped'), isBeside = isAskedBeside();
   if (isBeside) byId('brief').parentElement.after(box);
@@ -55,7 +55,7 @@ function placeStopped() {
   box.hidden = false;
 }
 
-/** Says in sight that the work was stopped, how far it had come, and what one can do: the final states that were met by then can be shown. */
+/** Says in sight that the work was stopped, how far it had come, and what one can do. */
 function sayStopped(command) {
   const { progress } = working, { states, unfinished } = command === 'outcomes' && progress !== null ? readMet(progress.answer.text) : {}, met = states?.length ?? 0, among = unfinished?.states;
   const far = progress === null ? '' : `, at about ${grouped(estimated(progress))} of at most ${grouped(progress.most)} ${LIMIT_OF[progress.command]}`;
@@ -74,7 +74,7 @@ function showMetBefore() {
   focusAnswer();
 }
 
-/** Ends the work before it has an answer, with the focus at what one can do then. Where the machine is still in sight, it is driven on. */
+/** Ends the work before it has an answer, with the focus at what one can do then. A machine in sight is driven on. */
 function stopWork() {
   if (bench.task === null) return;
   stopTask();

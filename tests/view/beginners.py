@@ -128,6 +128,26 @@ def word_stops_row(bench):
     return faults + differs("the count of steps is the same", bench.value("drive.count"), 3) + safety(bench)
 
 
+CACHES = "[...document.querySelectorAll('.core')].map(core => [...core.querySelectorAll('.cache tr')].map(row => [row.textContent, row.className, row.querySelector('.changed') !== null]))"
+
+
+def left_row(bench):
+    """A line that a cache lost stays in its list, and is marked in its step; a core with stores
+    that wait hasn't finished. What a run left says whose it is, and has no word of a register that a core doesn't use."""
+    bench.open_fresh()
+    bench.value("loadText('false-sharing.litmus'); wantCaches(true); putChoices('0s 0d 1s 1d 0s 0d 1s'); answerNow()")
+    faults = []
+    for count, wanted in ((2, [["x, yI→Mx=1 y=0", "", True], ["no lines", "", False]]), (4, [["x, yM→I", "gone", True], ["x, yI→Mx=1 y=1", "", True]]), (5, [["x, yI", "gone", False], ["x, yMx=1 y=1", "", False]])):
+        faults += differs("caches after %d" % count, bench.value("goTo(%d), %s" % (count, CACHES)), [[row] for row in wanted])
+    said = "[...[...document.querySelectorAll('.core')][0].querySelectorAll('.buffer li')].map(each => each.textContent).concat(document.querySelector(\"[data-choice='0s']\").ariaLabel)"
+    faults += differs("with a store that waits", bench.value(said), ["x=2", "P0: no more instructions"])
+    faults += differs("after it left", bench.value("goTo(6), " + said), ["left: x=2", "P0: finished"])
+    bench.value("goTo(7); putBeside(JSON.stringify(ABREAST))")
+    whose = bench.value("firstHistory().options.protocol.toUpperCase()")
+    faults += differs("whose", bench.value("[...document.querySelectorAll('#left caption')].map(each => each.textContent)"), ["%s, %s" % (what, whose) for what in ("Registers", "Memory", "Cache accesses")])
+    return faults + differs("of a core that uses none", bench.value("document.querySelector('#left tbody tr').textContent"), "EAX–1") + safety(bench)
+
+
 def rows(page, _):
     bench = Driver(page)
     return [
@@ -138,4 +158,5 @@ def rows(page, _):
         ("beginners, settings and ways back", lambda: settings_row(bench)),
         ("beginners, C beside each test", lambda: in_c_row(bench)),
         ("beginners, words by arrows", lambda: word_stops_row(bench)),
+        ("beginners, what left and what waits", lambda: left_row(bench)),
     ]

@@ -25,7 +25,7 @@ apt-get install -y --no-install-recommends chromium poppler-utils
 
 - What teaches: lessons, tasks, terms (teaching.py, lessons.py, beginners.py); the larger set of instructions (larger.py); work that is long, undo, branches and ways
   back (working.py); a lecture, tables and forms (presenting.py); lists of tests (playlists.py) and a hall (hall.py); ways of edges that cross nothing, and what
-  moves (drawn_edges.py); what WCAG 2.2 AA asks, as far as a script sees it (access.py); looks and layout (layout.py).
+  moves (drawn_edges.py); ways that share no stretch (ways.py); what WCAG 2.2 AA asks, as far as a script sees it (access.py); looks and layout (layout.py).
 - In Firefox, where Debian's firefox-esr is there, some of these rows.
 
 The last line is 'N passed, M failed'.
@@ -60,6 +60,7 @@ import presenting
 import reasons
 import repairs
 import teaching
+import ways
 import working
 from bench import READY
 from drawing import read
@@ -131,7 +132,7 @@ def rows_of_reasons(page, room, folder):
 
 def rows_that_teach(page, folder):
     """The rows of what teaches; they ask for outcomes and for `why`, so they need a module that answers these."""
-    return [row for each in (teaching, larger, working, presenting, playlists, hall, drawn_edges, access, layout, beginners) for row in each.rows(page, folder)]
+    return [row for each in (teaching, larger, working, presenting, playlists, hall, drawn_edges, ways, access, layout, beginners) for row in each.rows(page, folder)]
 
 
 class Page:

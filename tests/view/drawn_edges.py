@@ -221,7 +221,7 @@ def picked_row(bench):
     at_core, at_both = "({ from, to }) => [from, to].some(each => each.startsWith('P2'))", "({ from, to }) => [from, to].some(each => each.startsWith('P2')) && / y/.test(from)"
     core, both, left = (bench.value(press % (name, PICKED % form)) for name, form in (("P2", at_core), ("y", at_both), ("P2", "({ to }) => / y/.test(to)")))
     faults += differs("picked", [core[1:], both[1:], left[1:]], [[True, 1], [True, 2], [True, 1]]) + ([] if 0 < both[0] < core[0] < every else ["%s of %d arrows" % ([core, both], every)])
-    faults += differs("what is said", bench.text(".drawn-part > p > span"), "Drawn are %d of %d arrows, those at what is picked." % (left[0], every))
+    faults += differs("what is said", bench.text(".drawn-part > p > span"), "Drawn are %d of %d arrows, those at what is picked. Program order that TSO keeps has none." % (left[0], every))
     faults += differs("none again", bench.value(press % ("y", PICKED % "() => true")), [few, True, 0])
     return faults + safety(bench)
 
@@ -246,7 +246,7 @@ def many_terms_row(bench):
     faults += differs("the task", bench.value("taskSentence('', readTest(inputOf('why')).proposition, 'exists', [])"), "End as the condition asks, with 8 values.")
     drawn = "[sheet.cycle.cycle.length, sheet.cycle.closed]"
     faults += differs("arrows", [bench.value(drawn), bench.value("document.querySelector('.pick[value=P]').click(), " + drawn)], [[8, 8], [12, 0]])
-    faults += differs("broken names", bench.value("[...document.querySelectorAll('.edges .unbroken')].filter(each => each.getClientRects().length > 1).length"), 0)
+    faults += differs("code names, where words are enough", bench.value("/P.:/.test(document.querySelector('.reason').innerText)"), False)
     hint = "hint: the machine can reach more than 1000000 states, the limit of --states: raise it; tso why needs no states\nhint: run these: " + " ".join(["0s"] * 20)
     lines = ["The machine can reach more than 1,000,000 states, the limit of “Limit of states”: raise it.", "“Why” needs no states.", "Run these: " + "0s " * 12 + "…"]
     return faults + differs("a limit", bench.said(hint).split("\n"), lines) + safety(bench)
@@ -308,7 +308,7 @@ def claims_row(bench):
             got.append(bench.text("#states > [role=status] > strong, .reason > [role=status] > strong"))
         faults += differs(case, got + [bench.value("document.querySelector('#states [role=status] > strong').className")], wanted)
     advice = "MFENCE or a locked instruction between the store and the load would keep their order."
-    for test, said in ((ring(4), "(P3:1 passed P3:0). " + advice), (WIDE_RING, advice + " In another run that ends so, other loads may pass.")):
+    for test, said in ((ring(4), "P3 read a before memory saw its store to d. " + advice), (WIDE_RING, advice + " In another run that ends so, other loads may pass.")):
         bench.fill("test", test)
         bench.value("askWhy()")
         bench.wait("!bench.task && document.querySelector('.passing')")

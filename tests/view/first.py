@@ -64,7 +64,7 @@ def folds_row(bench):
     """The test is folded to one line, and opens where it is refused."""
     bench.open()
     faults = differs("open", bench.value("byId('test-part').open"), False)
-    faults += differs("its line", bench.text("#test-line"), "SB: MSI, atomic bus, store buffers of 4 stores")
+    faults += differs("its line", bench.text("#test-line"), "SB")
     bench.fill("choices", "0s 9s")
     return faults + differs("open where a choice is refused", bench.value("byId('test-part').open"), True) + safety(bench)
 
@@ -217,7 +217,16 @@ def first_screen_row(bench):
     faults += [] if abs(machine - order) < 4 else ["the machine ends at %d, the order at %d" % (machine, order)]
     said = "getComputedStyle(document.querySelector('.pictured'), '::after').content.includes('gets a row here')"
     faults += differs("what will stand there", bench.value(said), True)
-    bench.value("for (const word of ['0s', '0d']) makeChoice(word)")
+    tops = "[...document.querySelectorAll('#stepper, .machine')].map(each => Math.round(each.getBoundingClientRect().top + scrollY))"
+    lefts, before = bench.value("['#sentence', '#task-said', '[data-move]'].map(each => %s(each).left)" % BOX), bench.value(tops)
+    faults += [] if abs(lefts[0] - lefts[1]) < 8 < lefts[2] - lefts[0] else ["what to press isn't below the task: %s" % lefts]
+    bench.value("for (const word of ['0s', '1s', '0s', '1s']) makeChoice(word)")
+    faults += differs("met, and below it", bench.value("[byId('task').matches('.met'), ...%s]" % tops), [True, *before])
+    bench.window.resize(1024, 768)
+    met = bench.value(tops)
+    bench.value("goTo(0)")
+    faults += differs("in a smaller window the same, and memory in sight", bench.value("[%s('.memory').bottom <= innerHeight, ...%s]" % (BOX, tops)), [True, *met])
+    bench.value("goTo(4)")
     return faults + differs("once something does", bench.value(said), False) + safety(bench)
 
 
@@ -247,6 +256,20 @@ def bar_row(bench):
     bench.window.click("#lessons-part > summary")
     bench.window.click("h1")
     return faults + differs("after a press elsewhere", bench.value(opened), []) + safety(bench)
+
+
+STOPS = "[...document.querySelectorAll(':is(#test-part, #about, #folds details) > summary')].filter(each => each.checkVisibility()).map(each => each.parentElement.id)"
+
+
+def stops_row(bench):
+    """Tab goes as the eye does: in a wide window the test's line is the first in the bar. ? opens the list of keys."""
+    bench.open_fresh(width=1280)
+    faults = differs("in the bar", bench.value(STOPS), ["test-part", "about", "lessons-part", "keys"])
+    bench.window.resize(900)
+    bench.wait("byId('bench').previousElementSibling.id === 'folds'")
+    faults += differs("below it", bench.value(STOPS), ["about", "lessons-part", "keys", "test-part"])
+    bench.value("document.body.dispatchEvent(new KeyboardEvent('keydown', { key: '?', shiftKey: true, bubbles: true })); true")
+    return faults + differs("keys", bench.value("[byId('keys').open, document.activeElement.parentElement.id]"), [True, "keys"]) + safety(bench)
 
 
 CODE_SIZES = """[...document.querySelectorAll('.program code, .registers li, .memory li, .core-buttons code')].map(each => parseFloat(getComputedStyle(each).fontSize))"""
@@ -304,5 +327,5 @@ def rows(page, folder):
         ("what is folded at first", lambda: folded_row(bench, folder)),
         ("the core that keys act on", lambda: marked_core_row(bench)),
         ("large text", lambda: large_text_row(bench, folder)),
-        ("the first screen", lambda: first_screen_row(bench)), ("a buffer that is drawn", lambda: queue_row(bench)), ("folds of the bar", lambda: bar_row(bench)),
+        ("the first screen", lambda: first_screen_row(bench)), ("a buffer that is drawn", lambda: queue_row(bench)), ("folds of the bar", lambda: bar_row(bench)), ("stops in the bar", lambda: stops_row(bench)),
     ]

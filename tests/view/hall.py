@@ -1,7 +1,8 @@
-"""Rows for a lecture that keys lead, and for a small screen in a hall."""
+"""Rows for a lecture that keys lead, for names there, and for a small screen in a hall."""
 from bench import differs, safety
 from driver import Driver
 from playlists import CLICKED
+from teaching import press
 
 
 def led_row(bench):
@@ -73,6 +74,84 @@ def narrow_row(bench):
     return faults + safety(bench)
 
 
+def four_in_sight_row(bench):
+    """Four protocols are in sight with their programs, counts and sentence, at the start and at the end, on the page and in a lecture."""
+    faults = []
+    for width, height in ((1280, 800), (1024, 768)):
+        bench.open_fresh(width=width)
+        bench.window.resize(width, height)
+        for is_on in ("false", "true"):
+            bench.value("byId('about').open = false; loadText('false-sharing.litmus'); putBeside(JSON.stringify(ABREAST)); putLecture(%s); scrollTo(0, 0)" % is_on)
+            ends = bench.value("[0, 7].map(count => (goTo(count), Math.max(...[...document.querySelectorAll('.core')].map(each => each.getBoundingClientRect().bottom)))).map(Math.round)")
+            tops = bench.value("[0, 7].map(count => (goTo(count), Math.round(byId('programs').getBoundingClientRect().top)))")
+            faults += [] if max(ends) <= height and ends[0] == ends[1] and tops[0] == tops[1] else ["at %d by %d, lecture %s: %s, %s" % (width, height, is_on, ends, tops)]
+        bench.value("putLecture(false)")
+    return faults + safety(bench)
+
+
+def renamed_row(bench):
+    """An entry of a list gets a name of one's own, by Enter or by leaving it, which stays; what isn't in the list is said to be none of it."""
+    enter = "new KeyboardEvent('keydown', { key: '%s', bubbles: true })"
+    faults = []
+    bench.open_fresh()
+    bench.value("addToList(); byId('list-part').open = true")
+    for written, left, name in (("Peterson", "document.activeElement.blur()", "Peterson"), (" Dekker ", "field.dispatchEvent(%s)" % enter % "Enter", "Dekker"),
+                                ("Lamport", "field.dispatchEvent(%s)" % enter % "Escape", "Dekker"), (" ", "field.dispatchEvent(%s)" % enter % "Enter", "Dekker")):
+        press(bench, "#list [data-renamed]")
+        bench.value("(field => { field.value = '%s'; %s; })(document.activeElement)" % (written, left))
+        named = bench.value("[taught.list[0].name, byId('list').children[0].firstElementChild.textContent, document.querySelector('#list [data-raised]').ariaLabel]")
+        faults += differs("its name after %r" % written, named, [name, name, "Move %s up" % name])
+    faults += differs("the focus", bench.value("document.activeElement.textContent"), "Dekker")
+    faults += named_in_hall(bench)
+    bench.value("loadText('MP.litmus')")
+    bench.wait("document.querySelector('#list-bar span').textContent === 'Not in the lecture of 1 entry'")
+    return faults + safety(bench)
+
+
+def named_in_hall(bench):
+    """A name of one's own is the headline in a lecture, over the run and its reason, and stays when the entry is updated."""
+    bench.value("putLecture(true); askWhy()")
+    bench.wait("!bench.task && document.querySelector('.reason')")
+    headline = bench.value("byId('asked-line').textContent")
+    bench.value("backToRun(); putLecture(false); makeChoice('1s'); updateListed(); putLecture(true)")
+    found = [headline, *bench.value("[byId('asked-line').textContent, taught.list[0].name, taught.list[0].address.includes('choices=1s')]")]
+    bench.value("putLecture(false)")
+    return differs("in a lecture", found, ["Dekker", "Dekker", "Dekker", True])
+
+
+def outcomes_asked_row(bench):
+    """In a lecture the question stands over all outcomes too, the foot says what comes next, and C's names aren't there."""
+    bench.open_fresh()
+    bench.value("loadText('store-buffering.litmus'); addToList(); loadText('MP.litmus'); addToList(); putLecture(true); openListed(0); findOutcomes()")
+    bench.wait("!bench.task && document.querySelector('.states-sheet')")
+    asked = "[byId('asked-line').checkVisibility() && byId('asked-line').textContent, footSaid() === playlist.where]"
+    faults = differs("asked", bench.value(asked), ["Can both loads read 0?", True])
+    faults += differs("C", bench.value("getComputedStyle(document.querySelector('.states-sheet th[data-c]'), '::after').content"), "none")
+    bench.value("openListed(0)")
+    faults += differs("in a register", bench.value("document.querySelector('.registers').innerText.replace(/\\s/g, '')"), "EAX=0")
+    bench.value("putLecture(false)")
+    return faults + safety(bench)
+
+
+PLACES = "((top, parts) => parts.map(each => Math.round(each.getBoundingClientRect().top - top)).join())(document.querySelector('#machines').getBoundingClientRect().top, [...document.querySelectorAll('.program, .registers, .buffer')])"
+FOUR_CORES = "X86 four\n{ }\n P0 | P1 | P2 | P3 ;\n MOV [x],$1 | MOV [y],$1 | MOV EAX,[x] | MOV EAX,[y] ;\n | | MOV EBX,[y] | MOV EBX,[x] ;\n"
+
+
+def level_row(bench):
+    """At each step of a run programs, registers and buffers stand where they stood, on the page and in a lecture, with two cores and with four."""
+    faults = []
+    for width, height in ((1024, 768), (1280, 800), (1920, 1080)):
+        bench.open_fresh(width=width)
+        bench.window.resize(width, height)
+        for take, words in (("loadText('store-buffering.litmus')", "0s 1s 0s 1s 0d 1d"), ("takeText(%r)" % FOUR_CORES, "0s 1s 0d 2s 1d 3s 2s 3s")):
+            for is_on in ("false", "true"):
+                bench.value("putLecture(%s); %s; putChoices('%s'); answerNow()" % (is_on, take, words))
+                places = bench.value("Array.from({ length: %d }, (_, count) => { goTo(count); return %s; })" % (len(words.split()) + 1, PLACES))
+                faults += differs("places at %d, lecture %s, %s" % (width, is_on, words), len(set(places)), 1)
+            bench.value("putLecture(false)")
+    return faults + safety(bench)
+
+
 def rows(page, _):
     bench = Driver(page)
     return [
@@ -80,4 +159,8 @@ def rows(page, _):
         ("a press on the ground of a lecture", lambda: unpressed_row(bench)),
         ("a clicker all the way back", lambda: reverse_row(bench)),
         ("buffers in a lecture of 1024 by 768", lambda: narrow_row(bench)),
+        ("a name in a list", lambda: renamed_row(bench)),
+        ("outcomes and their question", lambda: outcomes_asked_row(bench)),
+        ("four protocols in sight", lambda: four_in_sight_row(bench)),
+        ("a core's parts stay where they are", lambda: level_row(bench)),
     ]

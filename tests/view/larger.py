@@ -34,11 +34,13 @@ FORMS = [
     ("NEG EAX", "0:EAX=3;", "P0's NEG EAX set EAX=4294967293 (0 − 3).", "registers of this core alone"),
     ("XCHG EAX,EBX", "0:EAX=3; 0:EBX=7;", "P0's XCHG EAX,EBX set EAX=7 and EBX=3.", "registers of this core alone"),
     ("MOV EAX,$5", "", "P0's MOV EAX,$5 set EAX=5.", "registers of this core alone"),
-    ("NOP", "", "P0's NOP changed nothing.", "It does nothing"), ("PAUSE", "", "P0's NOP changed nothing.", "It does nothing"),
-    ("LFENCE", "", "P0's NOP changed nothing.", "It does nothing"), ("SFENCE", "", "P0's NOP changed nothing.", "It does nothing"),
+    ("XCHG EBX,[x]", "x=3; 0:EBX=7;", "P0's XCHG EBX,[x] read x=3 from memory and wrote x=7, in one step.", "as with LOCK"),
+    ("NOP", "", "P0's NOP changed nothing.", "It does nothing"), ("PAUSE", "", "P0's PAUSE changed nothing.", "It does nothing"),
+    ("LFENCE", "", "P0's LFENCE changed nothing.", "It does nothing"), ("sfence", "", "P0's SFENCE changed nothing.", "It does nothing"),
 ]
 FORM = "X86 form\n{ %s }\n P0 ;\n %s ;\n"
 SEEN = "[byId('sentence').textContent, byId('said').textContent, MEANINGS[document.querySelector('.program code').dataset.means]]"
+WRITTEN = "X86 written\n{ 1:EAX=1; }\n P0 | P1 ;\n MOV [x],$1 | xchg EAX,[y] ;\n lfence | PAUSE ;\n MOV EAX,[y] | NOP ;\n"
 
 
 def forms_row(bench, folder):
@@ -52,6 +54,11 @@ def forms_row(bench, folder):
         faults += differs(instruction, [sentence, refusal], ["0s: " + said, ""])
         faults += [] if means in meaning else ["of %s it says at the pointer: %s" % (instruction, meaning)]
     bench.window.screenshot(os.path.join(folder, "larger-form.png"), whole=False)
+    listed = "[...document.querySelectorAll('.program li')].map(each => each.textContent + (each.dataset.c ? ', ' + each.dataset.c : ''))"
+    bench.value("takeText(%s)" % json.dumps(WRITTEN))
+    faults += differs("as it is written", bench.value(listed), ["MOV [x],$1", "LFENCE, no effect here", "MOV EAX,[y]", "XCHG EAX,[y]", "PAUSE", "NOP"])
+    bench.value("takeText(%s)" % json.dumps(WRITTEN.replace("lfence", "SFENCE (* or none *)")))
+    faults += differs("with a remark", bench.value(listed)[1], "NOP")
     return faults + safety(bench)
 
 
@@ -103,7 +110,7 @@ def answers_row(bench):
 def reasons_row(bench, folder):
     """Why nobody gets a lock twice is told in words where no value is left, and by a cycle through locked instructions."""
     faults = []
-    for name, said in (("CASLOCK", r"It can't be: (no word is left that P0's EAX could have at the end|nothing is left that P0:0 LR l=0 can read)\."),
+    for name, said in (("CASLOCK", r"It can't be: (no word is left that P0's EAX could have at the end|nothing is left that P0's locked load of l can read)\."),
                        ("TRYLOCK+both", r"It can't be: P0's store x=1 would be before itself in memory order\.")):
         bench.open_fresh()
         bench.value("takeFromLibrary('%s.litmus')" % name)

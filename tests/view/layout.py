@@ -41,8 +41,8 @@ def focus_ring_row(bench):
 
 
 def looked_row(bench):
-    """Where a lesson speaks of the picture, the picture is framed with its heading; at other steps nothing is."""
-    framed = "[...document.querySelectorAll('.pictured')].map(each => [getComputedStyle(each).outlineStyle, each.contains(byId('order-title'))])"
+    """Where a lesson speaks of the picture, its card is framed; at other steps nothing is."""
+    framed = "[...document.querySelectorAll('.pictured')].map(each => [getComputedStyle(each, '::before').outlineStyle, each.contains(byId('order-title'))])"
     bench.open_fresh()
     looked = bench.value("LESSONS[0].steps.findIndex(each => each.look === 'picture' && each.do === undefined && each.ask === undefined)")
     bench.value("beginLesson(LESSONS[0].name, %d)" % looked)
@@ -302,6 +302,19 @@ def own_question_row(bench):
     return faults + safety(bench)
 
 
+def open_exercise_row(bench):
+    """An exercise doesn't tell whether it can be done after an answer, until a run does it, which judges the answer."""
+    bench.open_fresh(urllib.parse.urlencode({"test": test_of("SB"), "exercise": "Is it so?"}))
+    bench.wait("possible.can === true")
+    press(bench, "[data-thought=cannot]")
+    titles = [bench.text("#task-said")]
+    for word in "0s 1s 0s 1s 0d 1d".split():
+        bench.key_choice(word)
+    said = bench.text("#exercise-thought")
+    titles += [bench.text("#task-said"), bench.value("goTo(1), byId('task-said').textContent")]
+    return differs("its task", [each[:8] for each in titles], ["\u2610 Can th", "\u2713 Task: ", "\u2610 Task: "]) + differs("done", said, "You said: it can't be. It can. Done.") + safety(bench)
+
+
 def play_row(bench):
     """Play draws choices that do something, and no others."""
     bench.open_fresh()
@@ -326,7 +339,7 @@ def exercises_row(bench, folder):
     bench.value(READY)
     bench.wait("drive.isOn")
     faults += differs("opened", [name, bench.value("[isLecture(), isUnanswered(), taught.list.map(each => each.name)]")],
-                      ["3-exercises.html", [False, True, ["Store buffering", "Store buffering with fences", "False sharing"]]])
+                      ["exercises-store-buffering.html", [False, True, ["Store buffering", "Store buffering with fences", "False sharing"]]])
     bench.value("answerExercise('can'); openListed(2)")
     faults += differs("the third", bench.value("[isUnanswered(), drive.words, valueOf('words'), document.querySelector('#list-bar span').textContent]"),
                       [True, [], 2, "3 of 3: False sharing"])
@@ -340,7 +353,7 @@ def rows(page, folder):
     bench = Driver(page)
     return [
         ("words of a lecture", lambda: hall_words_row(bench)), ("one word a line", lambda: one_word_row(bench)),
-        ("an exercise with one's own question", lambda: own_question_row(bench)), ("play without stalls", lambda: play_row(bench)),
+        ("an exercise with one's own question", lambda: own_question_row(bench)), ("an exercise that isn't solved", lambda: open_exercise_row(bench)), ("play without stalls", lambda: play_row(bench)),
         ("exercises of a list", lambda: exercises_row(bench, folder)),
         ("the ring at the focus", lambda: focus_ring_row(bench)), ("a picture that a lesson speaks of", lambda: looked_row(bench)),
         ("names of lanes below the bar", lambda: stuck_head_row(bench)), ("a lecture that stands still", lambda: still_lecture_row(bench)),

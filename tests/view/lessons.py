@@ -24,8 +24,10 @@ def guided_row(bench):
     press(bench, "[data-choice='0s']")
     press(bench, "[data-choice='1s']")
     faults += differs("the next step's own choice, and its question by itself", bench.value("[lesson.at, lesson.isDone, drive.words, byId('sentence').textContent]"), [4, False, ["0s", "1s"], ""])
+    first = "[byId('lesson-now').textContent, getComputedStyle(document.querySelector('[data-choice=\"0d\"] code')).visibility]"
+    faults += differs("what the buttons do, and what comes first", bench.value(first), ["Answer first.", "visible"])
     press(bench, "[data-choice='0s']")
-    faults += differs("what the buttons do, and what comes first", bench.value("[byId('lesson-now').textContent, getComputedStyle(document.querySelector('[data-choice=\"0d\"] code')).visibility]"), ["Answer first.", "visible"])
+    faults += differs("it is said once", bench.value(first), ["", "visible"])
     told = bench.value("(box => [drive.count, box.textContent, box.matches('.wrong')])(byId('lesson-after'))")
     faults += differs("at a question", told, [2, "First answer the question.", True])
     bench.value("enterStep(2)")
@@ -164,4 +166,47 @@ def keys_row(bench):
         shown.append(bench.value("sheet.cycle.shown"))
     faults += differs("arrows", shown, [1, 2, 1, 4])
     bench.window.press("Escape")
-    return faults + differs("the run", bench.value("byId('run').hidden"), False) + safety(bench)
+    return faults + differs("the run", bench.value("[byId('run').hidden, document.activeElement.matches('#machines h3')]"), [False, True]) + safety(bench)
+
+
+# The heights of a lesson's card, as one goes through it with each answer to each question.
+HEIGHTS = """lessonsHere().map(told => {
+  const heights = new Set(), note = () => heights.add(Math.round(byId('lesson').getBoundingClientRect().height));
+  beginLesson(told.name);
+  for (;;) {
+    note();
+    if (isAsked()) {
+      const before = lesson;
+      sayInLesson('First answer the question.');
+      note();
+      for (const answer of stepNow().answers) {
+        lesson = before;
+        answerLesson(answer);
+        note();
+      }
+    } else if (stepNow().show && !lesson.isDone) {
+      putLesson({ isDone: true, views: viewsAt(told.steps, lesson.at, true) });
+      drawLesson();
+    } else if (lesson.at === told.steps.length - 1) {
+      endLesson();
+      return heights.size;
+    } else goOn();
+  }
+})"""
+
+
+def card_row(bench):
+    """The card of a lesson keeps its height, and so what is below it its place, whatever is answered. A reload keeps which lessons are done."""
+    faults = []
+    for width in (1024, 1280, 1920):
+        bench.open_fresh(width=width)
+        faults += differs("heights at %d" % width, bench.value(HEIGHTS), [1, 1, 1, 1])
+    bench.value("beginLesson('false-sharing', 14); showInLesson(); true")
+    faults += differs("in sight over four machines", bench.value("[byId('lesson').getBoundingClientRect().top >= 0, drive.histories.length]"), [True, 4])
+    bench.value("endLesson()")
+    bench.wait("window.history.state?.done?.length > 3")
+    bench.window.reload()
+    bench.value(READY)
+    bench.wait("doneParts.size > 3")
+    marks = "[byId('marks-last').hidden, [...document.querySelectorAll('#lessons button + span')].every(each => each.textContent.startsWith(' ✓ done'))]"
+    return faults + differs("done", bench.value(marks), [False, True]) + safety(bench)

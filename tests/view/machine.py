@@ -192,8 +192,14 @@ def verdict_row(bench):
         told = {**found, "verdict": verdict, "states": [{**state, "holds": holds} for state, holds in zip(found["states"], truths)]}
         bench.value("showOutcomes({ status: 0, text: %s, hint: '' }, undefined, %s)" % (json.dumps(json.dumps(told)), json.dumps(test)))
         marked = bench.value("[...document.querySelectorAll('#states tbody tr')].map(row => [row.matches('.met'), row.textContent.includes('✓ true')])")
-        faults = differs("marked", marked, [[holds, holds] for holds in truths])
+        faults = differs("marked", marked, [[holds, holds] for holds in sorted(truths, reverse=True)])
         faults += [] if "Verdict %s: " % verdict in bench.text("#states .terms") else ["it says " + bench.text("#states .terms")]
+    for quantifier, wanted in (("~exists", [["✗ breaks it", True]] + 3 * [["keeps it", False]]), ("forall", 3 * [["✗ breaks it", True]] + [["keeps it", False]])):
+        bench.fill("test", test.replace("exists", quantifier))
+        bench.value("findOutcomes()")
+        bench.wait("!bench.task && document.querySelector('.states-sheet')")
+        rows = bench.value("[...document.querySelectorAll('#states tbody tr')].map(row => [row.cells[3].textContent, row.matches('.met')])")
+        faults += differs(quantifier, rows, wanted)
     return faults + safety(bench)
 
 

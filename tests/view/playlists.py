@@ -51,8 +51,8 @@ def list_row(bench, folder):
     bench.window.open("file://" + path)
     bench.value(READY)
     bench.wait("drive.isOn")
-    faults += differs("the name of the file", name, "lecture-of-3-entries.html")
-    faults += differs("opened first, at its start, for a lecture", bench.value("[playlist.at, drive.count, isLecture()]"), [0, 0, True])
+    faults += differs("the name of the file", name, "lecture-store-buffering.html")
+    faults += differs("opened first, at its start, for a lecture", bench.value("[playlist.at, drive.count, isLecture(), document.documentElement.matches('.led')]"), [0, 0, True, True])
     opened = [bench.value("testName()")]
     for _ in range(2):
         press(bench, "#list-bar [data-listed]:last-child")
@@ -261,22 +261,6 @@ def in_run_row(bench):
     return faults + safety(bench)
 
 
-def renamed_row(bench):
-    """An entry of a list gets a name of one's own, which stays; what isn't in the list is said to be none of it."""
-    bench.open_fresh()
-    bench.value("addToList(); byId('list-part').open = true")
-    press(bench, "#list [data-renamed]")
-    bench.value("(field => { field.value = ' Dekker '; field.dispatchEvent(new Event('change')); })(document.querySelector('[data-name-of]'))")
-    named = bench.value("[taught.list[0].name, byId('list').textContent.includes('Dekker'), document.activeElement.textContent]")
-    faults = differs("its name", named, ["Dekker", True, "Dekker"])
-    press(bench, "#list [data-renamed]")
-    bench.value("(field => { field.value = ' '; field.dispatchEvent(new Event('change')); })(document.querySelector('[data-name-of]'))")
-    faults += differs("with no name", bench.value("taught.list[0].name"), "Dekker")
-    bench.value("loadText('MP.litmus')")
-    bench.wait("document.querySelector('#list-bar span').textContent === 'Not in the lecture of 1 entry'")
-    return faults + safety(bench)
-
-
 def own_reason_row(bench):
     """An answer in the list explains the run that it was asked from, wherever that run stood, also in a lecture and after a reload."""
     explained = "[document.querySelector('.reason').textContent.includes('Loads pass stores in your run: P0 read y'), ownRun.kept.count, drive.isOn]"
@@ -385,6 +369,5 @@ def rows(page, folder):
         ("a lecture from its start", lambda: from_the_start_row(bench)),
         ("a clicker that goes back through a list", lambda: both_ways_row(bench)),
         ("a clicker in the middle of a run", lambda: in_run_row(bench)),
-        ("a name in a list", lambda: renamed_row(bench)),
         ("a reason and its run in a list", lambda: run_too_row(bench)),
     ]

@@ -167,8 +167,8 @@ def judged_exercise(bench):
     bench.key_choice("0d")
     for word in "0s 0s 1s 1d 1s 1s".split():
         bench.key_choice(word)
-    said = bench.text("#task")
-    return faults + ([] if said.startswith(" Not met this time: ") and "Go back" not in said else ["of a try it says " + said])
+    said = bench.text("#exercise-thought")
+    return faults + ([] if "so it is. Not met this time: " in said and "Go back" not in said else ["of a try it says " + said])
 
 
 def taken_row(bench):
@@ -303,7 +303,7 @@ def many_passes_row(bench):
     bench.fill("test", MANY_ENDS.replace("2:EAX=2", "2:EAX=0").replace("2:EBX=2", "2:EBX=0"))
     for choice in "0s 1s 2s 0s 1s 2s 0s 1s 2s".split():
         bench.key_choice(choice)
-    said = bench.text("#task-after")
+    said = bench.text("#task-after") + bench.text("#task-more")
     return ([] if said.startswith(" Done. ") and said.count(" passed ") == 3 and said.endswith(" And 3 more.") else ["it says " + said]) + safety(bench)
 
 
@@ -358,7 +358,7 @@ def later_row(bench):
     bench.fill("test", test_of("MP"))
     bench.value("showReason({ status: 0, text: %s, hint: '' }, inputOf('why'))" % json.dumps(json.dumps(LATER)))
     said = bench.text("#states")
-    return ["it doesn't say " + words for words in ("since: 1:EAX is 0 or 1", "P0:0 W x=1 comes before P0:1 W y=1", "ppo") if words not in said] + safety(bench)
+    return ["it doesn't say " + words for words in ("since: 1:EAX is 0 or 1", "P0's store x=1 comes before P0's store y=1", "ppo") if words not in said] + safety(bench)
 
 
 def embed_row(bench, folder):

@@ -105,15 +105,15 @@ def words_of(step):
     """Words that a step's sentence must have."""
     if "facts" in step or "answers" in step or "closing" in step:
         facts = step.get("facts", []) + [fact for answer in step.get("answers", []) for fact in answer]
-        return [(in_words if step["step"] == "given" else str)(re.match(r"P\d:\d+ \w+ \w+|", fact)[0]) for fact in facts] + (words_of(step["closing"]) if step.get("closing") else [])
+        return [in_words(re.match(r"P\d:\d+ \w+ [\w=]+|", fact)[0]) for fact in facts] + (words_of(step["closing"]) if step.get("closing") else [])
     if step["step"] in ("none", "lemma"):
-        return [step["of"].split(" initial")[0]] if step["step"] == "none" else ["lemma %d" % step["lemma"]]
+        return [in_words(step["of"].split(" initial")[0])] if step["step"] == "none" else ["lemma %d" % step["lemma"]]
     if step["step"] in ("case", "so"):
         sources = [each for each in step.get("from", []) if each != "initial"]
-        return [step.get("read") or step["first"], *sources, *([step["second"]] if "second" in step else []), *(["initial value"] if "initial" in step.get("from", []) else [])]
+        return [*map(in_words, [step.get("read") or step["first"], *sources, *([step["second"]] if "second" in step else [])]), *(["initial value"] if "initial" in step.get("from", []) else [])]
     if step["step"] == "false":
         return [str(word) for words in step["places"].values() for word in words]
-    return [in_words(step["cycle"][0]["from"])] if "cycle" in step else [step["between"]] if "between" in step else ["No other case"]
+    return [in_words(step["cycle"][0]["from"])] if "cycle" in step else [in_words(step["between"])] if "between" in step else ["No other case"]
 
 
 def faults_of_tree(shown, wanted, name):
@@ -138,7 +138,7 @@ def faults_of_cycle(bench, cycle):
         faults += differs("sentences at %d" % shown, [each[1:] for each in got["sentences"]], [[at >= shown, at == shown - 1] for at in range(length)])
         faults += differs("buttons at %d" % shown, got["buttons"], [shown == 1, shown == 1, shown == length, shown == length])
     for (said, _, _), edge in zip(got["sentences"], cycle):
-        faults += ["%s has no %s" % (said, word) for word in (edge["from"], edge["to"]) if word not in said]
+        faults += ["%s has no %s" % (said, word) for word in (in_words(edge["from"]), in_words(edge["to"])) if word not in said and "its " + word[5:] not in said]
     return faults + ["an edge is %.1f pixels beside its event" % away for pair in bench.value("(%s)(%s)" % (ENDS, json.dumps(cycle))) for away in pair if away > SHIFTED + 3]
 
 
@@ -265,14 +265,14 @@ def asked_cycle_row(bench):
 def told_loads_row(bench):
     """Each load of which it is told that it passed a store has that arrow, and the arrows begin with one. That one such load is enough is said of one alone,
     and a fence keeps that order. What is read as another instruction keeps its location's name."""
-    drawn = "sheet.cycle.cycle.filter(({ relation }) => relation === 'unkept').map(({ from, to }) => `${to.split(' ')[0]} passed ${from.split(' ')[0]}`)"
+    drawn = "sheet.cycle.cycle.filter(({ relation }) => relation === 'unkept').map(({ from, to }) => `P${eventOf(to).core} read ${eventOf(to).location} before memory saw its store to ${eventOf(from).location}`)"
     faults = []
     for test, choices in ((TWO, ""), *((text_of("SB"), run) for run in ("", "0s 0s 1s 1d 1s 0d", "1s 1s 0s 0d 0s 1d", "0s 1s 0s 1s 0d 1d"))):
         bench.load(test, choices)
         bench.value("%saskWhy()" % ("goTo(6), " if choices else ""))
         bench.wait("!bench.task && document.querySelector('.reason')")
-        said = bench.text(".reason > .passing")
-        told, arrows = re.findall(r"P\d:\d passed P\d:\d", said), bench.value(drawn)
+        said = bench.text(".reason .passing")
+        told, arrows = re.findall(r"P\d read \w before memory saw its store to \w", said), bench.value(drawn)
         faults += ["%s has no arrow" % each for each in told if each not in arrows] + differs("the first arrow", arrows[0] in told, True)
         faults += differs("that one is enough", "is enough" in said, len(told) == 1) + differs("what keeps it", "MFENCE or a locked instruction" in said, True)
     read_as = bench.value("readAsSaid(' LOCK INC [Flag0] | DEC EAX ;\\n')")
@@ -309,8 +309,8 @@ def no_fence_row(bench):
     bench.load(text_of("SB").replace("0:EAX=0", "0:EAX=1"), "1s 1s 1d 0s 0s 0d")
     bench.value("goTo(6), askWhy()")
     bench.wait("!bench.task && document.querySelector('.sequential')?.textContent")
-    said = bench.value("[...document.querySelectorAll('.reason > p')].map(each => each.textContent)")
-    at = [next((at for at, each in enumerate(said) if word in each), None) for word in ("No fence can forbid this end: sequential consistency allows it, too.", "P1:1 passed P1:0")]
+    said = bench.value("[...document.querySelectorAll('.reason p')].map(each => each.textContent)")
+    at = [next((at for at, each in enumerate(said) if word in each), None) for word in ("No fence can forbid this end: sequential consistency allows it, too.", "P1 read x before memory saw its store to y.")]
     faults = [] if None not in at and at[0] < at[1] else ["it says %s" % said]
     arrows = bench.value("sheet.cycle.cycle.filter(({ relation }) => relation === 'unkept').map(({ from, to }) => [from, to])")
     faults += differs("a fence", "MFENCE" in " ".join(said), False) + differs("the passes", arrows, [["P0:0 W x=1", "P0:1 R y=1"], ["P1:0 W y=1", "P1:1 R x=0"]])

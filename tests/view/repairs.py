@@ -216,12 +216,10 @@ def edited_row(bench):
 
 
 def kept_command_row(bench):
-    """An example is answered by the command that was asked last; its choices are said to be its own; an empty place says what to press."""
+    """An example is answered by the command that was asked last; its choices are said to be its own."""
     bench.open_fresh()
     bench.value("takeFromLibrary('store-buffering.litmus')")
     faults = [] if "This example comes with" in bench.text("#sentence") else ["it says " + bench.text("#sentence")]
-    bench.value("putCommand('outcomes'); answerNow()")
-    faults += differs("an empty place", bench.text("#states"), "Press “Find all outcomes”.")
     bench.value("putCommand('why'); takeFromLibrary('store-buffering-fenced.litmus')")
     bench.wait("!bench.task && document.querySelector('.reason')")
     found = bench.value("[currentCommand(), document.querySelector('.answer-title').textContent]")
@@ -290,26 +288,29 @@ CERTAIN = """(() => {
 COPIED = "X86 copied\n{ }\n P0 | P1 ;\n mov dword ptr [x], 1 | mov dword ptr [x], 1 ;\n MOV EAX,[y] | movl $2, y ;\n %s | MOV EAX,[x] ;\nexists (0:EAX=0)\n"
 
 
-CHANGED = "Changed: 3 places: line 4: mov dword ptr [x], 1 became MOV [x],$1; line 5: movl $2, y became MOV [y],$2. Undo takes all back. "
+CHANGED = "Written: line 4: mov dword ptr [x], 1 became MOV [x],$1; line 5: movl $2, y became MOV [y],$2. Undo takes all back. "
 LISTING = "f():\n  push rbp\n  mov rbp, rsp\n  mov DWORD PTR x[rip], 1  # x\n  lock or DWORD PTR [rsp], 0\n  mov r8d, DWORD PTR y[rip]\n  mov eax, DWORD PTR y[rip]\n  ret\ng():\n  .cfi_startproc\n  movl $1, y(%rip)\n"
 LISTED = "X86 pasted\n{ }\n P0          | P1         ;\n MOV [x],$1  | MOV [y],$1 ;\n MFENCE      |            ;\n MOV EBX,[y] |            ;\n MOV EAX,[y] |            ;\nexists (0:EBX=0 /\\ 0:EAX=0)\n"
 FOREIGN = "X86 foreign\n{ }\n P0 | P1 ;\n MOV EAX,[x] | MOV R8D,[x] ;\n MOV R8D,[y] | MOV EAX,[y] ;\n MOV [x],R8D | MOV EBX,[y] ;\nexists (0:R8D=1 /\\ 1:R8D=1)\n"
 NAMED = "f:\n movl r0(%rip), %eax\n mov [rip+r8], 2\n .data\nr0:\n .long 5\n"
 FROM_NAMED = "X86 pasted\n{ _r0=5; }\n P0            ;\n MOV EAX,[_r0] ;\n MOV [_r8],$2  ;\nexists (0:EAX=0)\n"
 EXPLORED = "".join("t%d:\n        mov     eax, 1\n        xchg    eax, DWORD PTR flag%d[rip]\n        mov     eax, DWORD PTR flag%d[rip]\n        ret\n" % (core, core, 1 - core) for core in (0, 1))
-FROM_EXPLORED = "X86 pasted\n{ }\n P0               | P1               ;\n mov eax, 1       | mov eax, 1       ;\n XCHG [flag0],EAX | XCHG [flag1],EAX ;\n MOV EAX,[flag1]  | MOV EAX,[flag0]  ;\nexists (0:EAX=0 /\\ 1:EAX=0)\n"
+FROM_EXPLORED = "X86 pasted\n{ }\n P0               | P1               ;\n MOV EAX,1        | MOV EAX,1        ;\n XCHG [flag0],EAX | XCHG [flag1],EAX ;\n MOV EAX,[flag1]  | MOV EAX,[flag0]  ;\nexists (0:EAX=0 /\\ 1:EAX=0)\n"
 RENAMED = "X86 foreign\n{ }\n P0          | P1          ;\n MOV EAX,[x] | MOV ECX,[x] ;\n MOV EBX,[y] | MOV EAX,[y] ;\n MOV [x],EBX | MOV EBX,[y] ;\nexists (0:EBX=1 /\\ 1:ECX=1)\n"
-GCC = '\t.file\t"a.c"\n\t.text\nf:\n.LFB0:\n\t.cfi_startproc\n\tmovl\t$1, x(%rip)\n\tmovl\ty(%rip), %eax\n\tret\n.LFE0:\n\t.size\tf, .-f\ng:\n\tmovl\t$1, y(%rip)\n\tlock orq\t$0, (%rsp)\n\tret\n\t.data\ny:\n\t.long\t5\n'
+GCC = '\t.file\t"a.c"\n\t.text\nf:\n.LFB0:\n\t.cfi_startproc\n\tmovl\t$1, x(%rip)\n\tmovl\ty(%rip), %eax\n\tret\n.LFE0:\n\t.size\tf, .-f\ng:\n\tmovl\t$1, y(%rip)\n\tlock orq\t$0, (%rsp)\n\tret\n\t.data\ny:\n\t.long\t5  # 0x5\n'
 FROM_GCC = "X86 pasted\n{ y=5; }\n P0          | P1         ;\n MOV [x],$1  | MOV [y],$1 ;\n MOV EAX,[y] | MFENCE     ;\nexists (0:EAX=0)\n"
 DIY = "X86_64 SB\n{\nuint64_t x; uint64_t 0:rax;\nuint64_t 1:rbx=1;\n}\n P0 | P1 ;\n movq $1,(x) | movq $1,(y) ;\n movq (y),%rax | movl (x),%r8d ;\nexists (0:rax=0 && 1:r8==0)\n"
 FROM_DIY = "X86 SB\n{\n1:EBX=1;\n}\n P0          | P1          ;\n MOV [x],$1  | MOV [y],$1  ;\n MOV EAX,[y] | MOV EAX,[x] ;\nexists (0:EAX=0 /\\ 1:EAX=0)\n"
+
+
+DISASSEMBLED = "0000000000001129 <f>:\n    1129:\tc7 05 ed 2e 00 00 01 \tmovl   $0x1,0x2eed(%rip)        # 4020 <x>\n    1130:\t00 00 00 \n    1133:\t8b 05 e3 2e 00 00    \tmov    eax,DWORD PTR [rip+0x2ee3]        # 401c <y>\n    1139:\tc3                   \tret\n"
 
 
 def listing_row(bench):
     """A compiler's listing becomes a test by one press, and a raw file of an assembler, and a test of X86_64 one of X86; and a register that isn't read here one that its core
     doesn't use, in the condition too. It says what became of them, each kind of change once."""
     faults = []
-    for text, name, written, said in ((LISTING, "Write it as a test", LISTED, "a test of 2 cores"), (EXPLORED, "Write it as a test", FROM_EXPLORED, "line 5: xchg eax, DWORD PTR flag0[rip] became XCHG [flag0],EAX"), (NAMED, "Write it as a test", FROM_NAMED, "a test of 1 core, location r0 became _r0, location r8 became _r8"), (GCC, "Write it as a test", FROM_GCC, "a test of 2 cores; line 4: movl $1, x(%rip) became MOV [x],$1; line 4: movl $1, y(%rip) became MOV [y],$1; line 5: lock orq $0, (%rsp) became MFENCE"),
+    for text, name, written, said in ((LISTING, "Write it as a test", LISTED, "a test of 2 cores"), (EXPLORED, "Write it as a test", FROM_EXPLORED, "line 5: xchg eax, DWORD PTR flag0[rip] became XCHG [flag0],EAX"), (DISASSEMBLED, "Write it as a test", "X86 pasted\n{ }\n P0          ;\n MOV [x],$1  ;\n MOV EAX,[y] ;\nexists (0:EAX=0)\n", "Written: a test of 1 core; line 4: movl $1,x(%rip) became MOV [x],$1"), (NAMED, "Write it as a test", FROM_NAMED, "a test of 1 core, location r0 became _r0, location r8 became _r8"), (GCC, "Write it as a test", FROM_GCC, "a test of 2 cores; line 4: movl $1, x(%rip) became MOV [x],$1; line 4: movl $1, y(%rip) became MOV [y],$1; line 5: lock orq $0, (%rsp) became MFENCE"),
                                       (FOREIGN, "Write it so", RENAMED, "P1: R8D became ECX; P0: R8D became EBX"), (DIY, "Write it so", FROM_DIY, "X86_64 became X86, with registers of 32 bits")):
         bench.open_fresh()
         bench.fill("test", text)
@@ -317,8 +318,11 @@ def listing_row(bench):
         press(bench, "#write-so")
         faults += differs("written", bench.value("byId('test').value"), written)
         faults += [] if said in bench.text(".writing .noticed") else ["it says " + bench.text(".writing .noticed")]
+    said = "Line 8 (testl) and line 9 (je): there are no jumps, compares or calls here. Keep what the cores do alone, by the one way that is taken: without such lines this can be written as a test."
+    bench.fill("test", DISASSEMBLED.replace("<y>", "<_init+0x4>"))
+    said_of_names = "This listing has no names of locations: paste what gcc -S writes, or objdump -dr of an object file."
+    faults += differs("without names", bench.value("[byId('write-so').hidden, byId('plain').textContent, byId('test-band').dataset.line]"), [True, said_of_names, "4"])
     bench.fill("test", GCC.replace("\tret\n", "\ttestl\t%eax, %eax\n\tje\t.L5\n", 1))
-    said = "Line 8 (testl) and line 9 (je): there are no jumps, compares or calls here. Keep the one way that is taken: without such lines this can be written as a test."
     faults += differs("with a jump", bench.value("[byId('write-so').hidden, byId('plain').textContent, byId('test-band').dataset.line]"), [True, said, "8"])
     return faults + safety(bench)
 
@@ -333,7 +337,7 @@ def certain_row(bench):
             ("exists (0:RAX=0)", "RAX has 64 bits, and registers have 32 here: EAX stands for it, write EAX", "exists (0:EAX=0)"),
             ("x = 1; | MFENCE ;", "'x = 1': write MOV [x],$1; leave out the ; behind it, which ends a row", "MOV [x],$1 | MFENCE ;"),
             ("MFENCE | MFENCE; ;", "; stands twice: a row ends with one ;", "MFENCE | MFENCE;"),
-            ("~exist (x=0)", "exist: write exists", "~exists (x=0)"), ("exits (x=0)", "exits is no instruction: write exists", "exists (x=0)"),
+            ("~exist (x=0)", "exist: write exists", "~exists (x=0)"), ("MOVE EAX,[x] | move [x],$1 ;", "MOVE is no instruction: write MOV", "MOV EAX,[x] | MOV [x],$1 ;"), ("MOV EAX [x] | LOCK INC [y] | mov [x] 1 ;", "no comma stands between the two operands", "MOV EAX,[x] | LOCK INC [y] | mov [x],1 ;"), ("exits (x=0)", "exits is no instruction: write exists", "exists (x=0)"),
             ("exists (0:EAX==0 && x=1 || y=1)", "'=': in a condition write /\\ for and, \\/ for or", "exists (0:EAX=0 /\\ x=1 \\/ y=1)"),
             ("exists (0:EAX==0 and x=1 or y=1)", "and: in a condition write /\\ for and, \\/ for or", "exists (0:EAX=0 /\\ x=1 \\/ y=1)"),
             ("fence; | MFENCE ;", "; stands behind fence: leave it out: it ends a row, and | splits cells", "MFENCE | MFENCE ;"),
@@ -344,6 +348,8 @@ def certain_row(bench):
     aligned = bench.value("aligned('X86 a\\n{ x=0; }\\nP0|P1;\\nMFENCE|MOV EAX,[x];\\nexists (x=0)\\n')")
     faults += differs("changed", bench.value("changesSaid([{ line: 4, said: 'a' }, { line: 6, said: 'a' }, { said: 'b', isOther: true }])"), "b; lines 4 and 6: a. Undo takes all back. ")
     faults += differs("in their order", bench.value("changesSaid([{ line: 5, said: 'b' }, { line: 4, said: 'a' }, { line: 6, said: 'a' }, { line: 7, said: 'c', isOther: true }])"), "lines 4 and 6: a; line 5: b; line 7: c. Undo takes all back. ")
+    stack = bench.value("pageHint('hint: line 4: MOV EAX,[s]: there is no stack: write a location for what is kept there, as [s]')")
+    faults += [] if stack.endswith("as [s]. Or compile with -O1") else ["of the stack it says " + stack]
     faults += differs("short", bench.said("hint: line 5: fence isn't read: the fence is MFENCE; leave out one\n"), "hint: line 5: fence: write MFENCE")
     signs = bench.value("repaired('exists (x==0 && y==1)', \"hint: line 1: '=': in a condition\").said")
     faults += differs("signs", signs, "== became =, && became /\\")

@@ -6,7 +6,7 @@ import re
 from bench import DIVIDING_LINE, EXAMPLES, FIRST, READY, differs, read, safety
 from driver import Driver
 from kept import faults_of_form, saved_page
-from lessons import focus_row, guided_row, keys_row, own_test_row, press, views_row
+from lessons import card_row, focus_row, guided_row, keys_row, own_test_row, press, views_row
 
 GALLERY = os.path.join(EXAMPLES, "gallery")
 TEST = read(EXAMPLES, FIRST).partition(DIVIDING_LINE)[0]
@@ -240,6 +240,8 @@ def tasks_row(bench):
         faults += [] if "Can this be done?" in bench.text("#task") else ["before it is known: " + bench.text("#task")]
         bench.wait("possible.can !== null")
         faults += differs("%s of %s" % (quantifier, name), bench.text("#task"), wanted)
+    named = bench.value("loadsSentence(wantedWords('0:EBX=0 /\\\\ 1:EAX=0'), [['XCHG [x],EAX', 'MOV EBX,[y]'], ['MOV [y],$1', 'MOV EAX,[x]']])")
+    faults += differs("beside a locked instruction", named, "P0's load of y and P1's load of x read 0")
     for word in "0s 0d 0s 1s 1s 1d".split():
         bench.key_choice(word)
     said = bench.text("#task")
@@ -269,7 +271,7 @@ def done_by_answer_row(bench):
     bench.wait("!bench.task && document.querySelector('.states-sheet')")
     bench.value("document.querySelector('#states tr.met [data-choices]').click()")
     said = bench.text("#task")
-    is_so = said.startswith("▷ Shown by the answer: Make both loads read 0. P") and said.endswith(" Now make it yourself.")
+    is_so = said.startswith("▷ Shown by the answer: Make both loads read 0. Now make it yourself. P")
     faults += [] if is_so else ["of a run of the answer it says " + said]
     bench.value("backToOwnRun()")
     for word in "0s 1s 0s 1s 0d 1d".split():
@@ -299,7 +301,7 @@ def rows(page, folder):
         ("a lesson, fences", lambda: lesson_row(bench, "fences", "document.querySelector('.reason .cycle') !== null")),
         ("a lesson, false sharing", lambda: lesson_row(bench, "false-sharing", "document.querySelectorAll('.machine').length === 4 && " + SHARES)),
         *([("a lesson, compare and exchange", lambda: lesson_row(bench, "compare-and-exchange", "document.querySelector('.reason') !== null"))] if has_larger_set(bench) else []),
-        ("a lesson that guides", lambda: guided_row(bench)),
+        ("a lesson that guides", lambda: guided_row(bench)), ("the card of a lesson", lambda: card_row(bench)),
         ("the focus in a lesson", lambda: focus_row(bench)), ("a lesson shows its views again", lambda: views_row(bench)), ("a test of one's own after a lesson", lambda: own_test_row(bench)), ("keys of the test and of arrows", lambda: keys_row(bench)),
         ("a lesson of the documents", lambda: documented_row(bench)),
         ("a lesson of a teacher", lambda: taught_row(bench, folder)),

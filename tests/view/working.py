@@ -4,7 +4,7 @@ import os
 import re
 
 from bench import EXAMPLES, READY, differs, read, safety
-from driver import STORES_AND_LOADS, Driver
+from driver import LARGE, STORES_AND_LOADS, Driver
 from machine import LONG_SEARCH
 from teaching import is_in_sight, press, test_of
 
@@ -104,7 +104,7 @@ def brief_row(bench):
     bench.wait("!bench.task && document.querySelector('.reason')")
     faults += differs("said", bench.text("#brief-said"), "Yes: a run ends with 0 in P0's EAX and 0 in P1's EAX.")
     faults += differs("in sight", [is_in_sight(bench, "#brief"), is_in_sight(bench, "#test")], [True, True])
-    passed = r"(A load passes a store|Loads pass stores) in this run: P\d read \w before memory saw its store to \w \(P\d:1 passed P\d:0\)\."
+    passed = r"(A load passes a store|Loads pass stores) in this run: P\d read \w before memory saw its store to \w\."
     faults += [] if re.search(passed, bench.text(".reason")) else ["it doesn't say what makes it possible: " + bench.text(".reason")]
     press(bench, "#to-answer")
     faults += differs("at the answer", [bench.value("document.activeElement.matches('.answer-title')"), is_in_sight(bench, ".answer-title")], [True, True])
@@ -121,6 +121,23 @@ def brief_row(bench):
     bench.choose("why")
     bench.wait("!bench.task && document.querySelector('.cycle')") # by itself, after the outcomes too
     return faults + safety(bench)
+
+
+def by_themselves_row(bench):
+    """Outcomes of few states come by themselves, beside the test; of many the button says that it has to be pressed."""
+    bench.open_fresh()
+    bench.value("byId('test-part').open = true")
+    bench.choose("outcomes")
+    bench.wait("!bench.task && byId('brief-said').textContent.startsWith('Yes: 1 of 4 outcomes')")
+    faults = differs("the text and the table", bench.value("[!document.querySelector('.ways-said'), JSON.parse(formats.texts.json).states.length]"), [False, 4])
+    bench.value("byId('report-part').open = true")
+    bench.wait("byId('report-note').textContent.endsWith('those that the search met first.')")
+    bench.fill("test", LARGE)
+    bench.wait("byId('begin-said').textContent === 'Many states: press it to search.'")
+    faults += differs("an empty place", [bench.text("#states"), bench.value("byId('brief').hidden")], ["Press “Find all outcomes”.", True])
+    bench.fill("test", test_of("MP"))
+    bench.wait("!bench.task && byId('brief-said').textContent.startsWith('No: none of 3')")
+    return faults + differs("then", bench.text("#begin-said"), "") + safety(bench)
 
 
 def refused_row(bench):
@@ -226,13 +243,15 @@ def undo_row(bench):
     for word in ("0s", "1s"):
         press(bench, "[data-choice='%s']" % word)
         states.append(bench.value(STATE))
+    said = [bench.value("byId('undo').title")]
     bench.value("byId('test-part').open = true")
     for field, value in (("set-depth", "2"), ("test", STORES_AND_LOADS.replace("X86 SB", "X86 other"))):
         bench.fill(field, value)
         states.append(bench.value(STATE))
+    said.append(bench.value("byId('undo').title"))
     press(bench, "[data-choice='0s']")
     states.append(bench.value(STATE))
-    faults = []
+    faults = differs("what it says", said, ["Undo: a choice", "Undo: the change of the test"])
     for at in range(len(states) - 2, -1, -1):
         bench.value(UNDO)
         faults += differs("undone to %d" % at, bench.value(STATE), states[at])
@@ -262,8 +281,10 @@ def branch_row(bench):
     for word in "0s 1s 0s 1s 0d 1d".split():
         press(bench, "[data-choice='%s']" % word)
     bench.value("goTo(2)")
+    top = "document.querySelector('.machine').getBoundingClientRect().top + scrollY"
+    before = bench.value(top)
     press(bench, "[data-choice='0d']")
-    faults = differs("made", bench.value("drive.words"), "0s 1s 0d".split())
+    faults = differs("made, and in its place", bench.value("[drive.words, %s]" % top), ["0s 1s 0d".split(), before])
     faults += [] if "after choice 2: 0s 1s 0d 1d" in bench.text("#branches") else ["it offers " + bench.text("#branches")]
     press(bench, "[data-branch]")
     faults += differs("taken again", bench.value("[drive.words.join(' '), drive.count]"), ["0s 1s 0s 1s 0d 1d", 2])
@@ -358,7 +379,7 @@ def rows(page, folder):
         ("a search that was stopped, in sight", lambda: stopped_row(bench)),
         ("an answer that is there", lambda: current_row(bench)),
         ("registers that nothing writes", lambda: noted_row(bench)),
-        ("an answer in brief beside the test", lambda: brief_row(bench)),
+        ("outcomes by themselves", lambda: by_themselves_row(bench)), ("an answer in brief beside the test", lambda: brief_row(bench)),
         ("a refusal of what is asked", lambda: refused_row(bench)),
         ("a deeper run of an answer", lambda: deeper_run_row(bench)),
         ("what was undone", lambda: said_undo_row(bench)),
