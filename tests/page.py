@@ -52,7 +52,7 @@ SAID, NEVER_SAID = b"Sometimes", b"Neverever"
 # The folder.
 
 # A script that has texts packed, at its end.
-PACKED = re.compile(r"(.*\n\nconst [A-Z]+ = )'([0-9A-Za-z!#$%&()*+,;=>?@^_`{|}~-]+)';\n", re.DOTALL)
+PACKED = re.compile(r"(.*\n\nconst [A-Z]+ = )'([ !#-&(-;=-\[\]-~]+)';\n", re.DOTALL)
 
 
 def held(script):

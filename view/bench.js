@@ -40,8 +40,7 @@ function firstChoices(text, most) {
 /** What is said where nothing is written: no line is at fault. */
 const NO_TEST = { status: Tso.STATUS.refused, text: '', hint: 'There is no test yet: write one, or take one of the examples.' };
 
-/** Answers what is written: at once, or for a long command only whether the test is refused. A run that can be driven begins at its
- * start or is shown at its end. */
+/** Answers what is written: of a long command only whether the test is refused. */
 function answerNow(isAtStart = false) {
   if (!bench.tso) return;
   stopTask();
@@ -97,7 +96,7 @@ function showAsked(command) {
   forgetNotices(command);
   showLeft();
   showExercise();
-  byId('drive-it').hidden = command !== 'run';
+  byId('asks-here').hidden = command !== 'run';
   byId('begin').disabled = settings.wrong !== undefined;
   return settings;
 }
@@ -105,7 +104,8 @@ function showAsked(command) {
 /** The module's answer; where it trapped, a sentence in its place. */
 function asked(options, input) {
   try {
-    return bench.tso.answer(options, input);
+    const answer = bench.tso.answer(options, input);
+    return (answer.status !== Tso.STATUS.refused && refusalOfBare(input)) || answer;
   } catch (fault) {
     return { status: null, text: '', hint: trapSentence(fault) };
   }
@@ -181,7 +181,7 @@ function showSaid({ status, hint }, said) {
   byId('hint').textContent = pageHint(hint);
 }
 
-/** What an answer says in the words of litmus tests, folded: who knows these looks for them. */
+/** What an answer says in the words of litmus tests, folded. */
 const inTerms = text => html('details', { class: 'terms small' }, html('summary', {}, 'In litmus terms'), html('p', {}, text));
 
 /** The heading of an answer's sheet, to which the focus goes. */
@@ -190,7 +190,7 @@ const answerTitle = text => html('h2', { class: 'answer-title', tabindex: -1 }, 
 /** Whether what works, or has ended, was begun beside the test. */
 const isAskedBeside = () => byId('test-part').open && byId('test-part').contains(working.asker);
 
-/** Says an answer's first sentence beside the test that asked for it. Answers whether it did. */
+/** Says an answer's first sentence beside the test; answers whether it did. */
 function saidInBrief() {
   const said = byId('states').querySelector('[role=status] strong')?.textContent ?? '';
   const isBeside = isAskedBeside() && (working.asker === byId('test') || byId('commands').offsetTop < byId('told').offsetTop);
@@ -244,16 +244,16 @@ function backToRun() {
 }
 
 /** Asks a long command about the test, by one click from its run. */
-function ask(command, { isAgain } = {}) {
+function ask(command, how = {}) {
   keepOwnRun();
   foldList();
   putCommand(command);
-  begin({ isAgain });
+  begin(how);
 }
 
 const findOutcomes = () => ask('outcomes');
 
-/** Judges the order of the run that is shown: whether it is one of TSO, or which choices lead to it. */
+/** Asks `check` or `witness` about the order of the run that is shown. */
 function judgeOrder(command) {
   keepOwnRun();
   const { text } = reportNow();
@@ -275,7 +275,7 @@ function hasRoom(choices, depth) {
 /** Puts the focus on the machine's heading. */
 const focusMachine = () => document.querySelector('#machines h3')?.focus({ preventScroll: true });
 
-/** Runs choices that were found, on an atomic bus, and in one's own store buffers where there is room. */
+/** Runs choices that were found, in one's own store buffers where there is room. */
 function loadChoices(choices, found) {
   keepOwnRun();
   const before = JSON.parse(ownRun.kept.settings).find(([name]) => name === 'depth')?.[1] ?? SET_AT_FIRST.depth;
@@ -321,7 +321,7 @@ function tracingOf(tso) {
   return !tells('trace') ? null : tells('step') ? 'step' : 'trace';
 }
 
-/** Makes the machine of the module, and opens the list of texts. Throws where the browser can't open them. */
+/** Makes the machine, and opens the list of texts. Throws where the browser can't. */
 async function makeBench() {
   [bench.bytes] = await Promise.all([unpacked(MODULE.packed), openLibrary()]);
   const tso = await Tso.of(bench.bytes);

@@ -4,7 +4,7 @@
 
 const EVENTS = { least: 120, side: 44, code: 20, line: 15, box: 26, gap: 6, head: 30, thin: 6, letter: 8, place: 4, smaller: 0.7 };
 const CHIP_LETTERS = 13;
-const NARROW = { least: 116, tight: 94, side: 26, letters: 14, few: 12, smaller: 0.85, from: 0.9, step: 8, most: 40 }; // for lanes that don't fit the window
+const NARROW = { least: 116, tight: 94, side: 26, letters: 14, few: 12, smaller: 0.85, fitted: 0.76, from: 0.9, step: 4, most: 40 }; // for lanes that don't fit the window
 
 /** The events that edges name, each once. */
 const eventsOf = edges => [...new Map(edges.flatMap(({ from, to }) => [from, to]).map(text => [nameOfEvent(text), eventOf(text)])).values()];
@@ -47,23 +47,23 @@ function wordsOfPrograms(programs, { margin, lane, side, tops, codes }) {
     ...program.map((_, place) => ({ x: margin + core * lane + side, y: tops[place] + 2, width, height: codes[place] - 4 }))]);
 }
 
-const HALL = { high: 0.47, most: 120 }; // of a lecture's window, and pixels between two rows
+const HALL = { high: 0.47, narrow: 0.42, most: 120 }; // of a lecture's window, and pixels between two rows
 
 /** How much further apart rows stand where a lecture has room. */
-const roomBetween = (rows, width, height) => (isLecture() && rows > 1 ? Math.min(HALL.most, Math.max(0, width * HALL.high * innerHeight / (innerWidth - aroundPicture()) - height) / (rows - 1)) : 0);
+const roomBetween = (rows, width, height, isNarrow) => (isLecture() && rows > 1 ? Math.min(HALL.most, Math.max(0, width * HALL[isNarrow ? 'narrow' : 'high'] * innerHeight / roomOfPicture() - height) / (rows - 1)) : 0);
 
 /** Where each event's box stands, under its instruction. Narrow lanes have so much room (`added`) more beside their boxes. */
 function layOutEvents(programs, edges, isNarrow, added = 0) {
   const events = eventsOf(edges), rows = Math.max(...programs.map(program => program.length)), far = farEdges(edges), channels = channelsOf(far, rows);
   const widest = Math.max(...programs.flat().map(text => text.length + EVENTS.place), ...events.map(({ text }) => text.length));
   const { side, margin } = sidesFor(edges, isNarrow, added);
-  const doesFit = least => NARROW.smaller * (programs.length * (least + 2 * side) + 2 * margin + 2) <= innerWidth - aroundPicture(), isTight = !doesFit(NARROW.least) && doesFit(NARROW.tight);
+  const doesFit = (least, smaller) => smaller * (programs.length * (least + 2 * side) + 2 * margin + 2) <= roomOfPicture(), isTight = !doesFit(NARROW.least, NARROW.smaller) && doesFit(NARROW.tight, smallest());
   const lane = (!isNarrow ? Math.max(EVENTS.least, widest * EVENTS.letter + 12) : isTight ? NARROW.tight : NARROW.least) + 2 * side;
   const letters = !isNarrow ? Infinity : isTight ? NARROW.few : NARROW.letters, codes = codesOf(programs, rows, letters);
   const isSecond = event => event.kind === 'LW' && events.some(other => other.kind === 'LR' && other.core === event.core && other.place === event.place);
   const heightOf = heightsOfBoxes(edges, programs.length), own = ({ core, place }) => events.filter(each => each.core === core && each.place === place);
   const high = found => found.reduce((sum, event) => sum + heightOf(event) + EVENTS.gap, 0);
-  const width = programs.length * lane + 2 * margin + 2, packed = topsOfRows(rows, row => Math.max(0, ...programs.map((_, core) => high(own({ core, place: row })))), channels, codes), apart = roomBetween(rows, width, packed.at(-1)), tops = packed.map((top, row) => top + apart * Math.min(row, rows - 1));
+  const width = programs.length * lane + 2 * margin + 2, packed = topsOfRows(rows, row => Math.max(0, ...programs.map((_, core) => high(own({ core, place: row })))), channels, codes), apart = roomBetween(rows, width, packed.at(-1), isNarrow), tops = packed.map((top, row) => top + apart * Math.min(row, rows - 1));
   const boxOf = event => ({
     x: margin + event.core * lane + side, width: lane - 2 * side, height: heightOf(event),
     y: tops[event.place] + codes[event.place] + (isSecond(event) ? high(own(event).filter(({ kind }) => kind === 'LR')) : 0),
@@ -98,10 +98,14 @@ function drawEvent({ event, ...box }) {
     fittingText({ x: box.x + box.width / 2, y: box.y + box.height / 2 + 5 }, 14, event.text.slice(event.text.indexOf(' ') + 1), box.width - 8));
 }
 
-const aroundPicture = () => (innerWidth > 560 ? 56 : 32); // pixels of a window that no picture has
+/** How small narrow lanes may be, so that all are in sight. */
+const smallest = () => (innerWidth > 560 ? NARROW.fitted : NARROW.smaller);
+
+/** The width that a picture may have. */
+const roomOfPicture = () => (innerWidth > 560 ? Math.min(innerWidth - 16, isLecture() ? 1880 : 1800) - 64 : innerWidth - 32);
 const MANY_CORES = 4; // with more than these, cores without an edge are left out
 const FITTED = { letters: 9, narrow: 11, above: 120 }; // of a picture that fits the screen
-const isTooLarge = ({ dataset: { least, high } }) => Number(least) > innerWidth - aroundPicture() || Number(high) > innerHeight - FITTED.above;
+const isTooLarge = ({ dataset: { least, high } }) => Number(least) > roomOfPicture() || Number(high) > innerHeight - FITTED.above;
 const fitsWell = figure => isTooLarge(figure) && CHIP_LETTERS * Number(figure.dataset.fit) >= FITTED[figure.matches('.narrow') ? 'narrow' : 'letters'];
 const MANY_EDGES = 20; // with more than these, an execution is drawn with the edges at what its condition names, or those that are picked
 
@@ -120,11 +124,17 @@ function drawingOf(layout, edges) {
   return { layout, ways, ...chipsOf(layout, edges, ways) };
 }
 
-/** The narrowest lanes in which chips cover least: up to what is too wide for the window, if in any all is clear. */
-function narrowDrawing(programs, edges, best = null, added = 0) {
-  const drawing = drawingOf(layOutEvents(programs, edges, true, added), edges), isWide = NARROW.smaller * drawing.layout.width > innerWidth - aroundPicture();
-  const better = best === null || (drawing.cost < best.cost && (drawing.cost === 0 || !isWide)) ? drawing : best;
-  return better.cost === 0 || added === NARROW.most ? better : narrowDrawing(programs, edges, better, added + NARROW.step);
+/** The narrowest lanes in which chips cover least: too wide ones if in them all is clear, and in none that the window has room for nearly all. */
+function narrowDrawing(programs, edges) {
+  let best = null, isClear = false;
+  for (let added = 0; added <= NARROW.most; added += edges.length > MANY_EDGES ? 2 * NARROW.step : NARROW.step) {
+    const drawing = drawingOf(layOutEvents(programs, edges, true, added), edges), { cost } = drawing, isWide = smallest() * drawing.layout.width > roomOfPicture();
+    if (isWide && isClear) return best;
+    if (best === null || (isWide ? cost === 0 : cost <= best.cost)) best = drawing;
+    if (cost === 0) return best;
+    isClear = !isWide && 2 * best.cost <= edges.length;
+  }
+  return best;
 }
 
 const GROWN = { most: 1.8, width: 0.6, height: 0.6, taught: 0.3 };
@@ -147,10 +157,10 @@ function drawEdges(programs, edges, name) {
     ...shown.map((program, lane) => drawLane(layout, program, lane, cores[lane])), ...[...layout.boxes.values()].map(drawEvent),
     ...edges.map((_, at) => drawLetters(chips[at], edges, at, isNarrow)));
   picture.prepend(...picture.querySelectorAll('.lane')); // ways go over the lanes' lines
-  const least = (isNarrow ? NARROW : EVENTS).smaller * layout.width;
+  const whole = smallest() * layout.width, least = isNarrow && whole <= roomOfPicture() ? whole : (isNarrow ? NARROW : EVENTS).smaller * layout.width;
   picture.style.width = `max(100%, ${least}px)`;
-  const fit = Math.min((innerWidth - aroundPicture()) / layout.width, (innerHeight - FITTED.above) / layout.height);
-  const figure = html('figure', { tabindex: 0, 'aria-label': name, class: isNarrow ? 'narrow' : layout.width > 7 * layout.height ? 'flat' : '', 'data-least': least, 'data-fit': fit, 'data-high': layout.height * Math.min(1, Math.max(least, innerWidth - aroundPicture()) / layout.width) }, picture);
+  const fit = Math.min(roomOfPicture() / layout.width, (innerHeight - FITTED.above) / layout.height);
+  const figure = html('figure', { tabindex: 0, 'aria-label': name, class: isNarrow ? 'narrow' : layout.width > 7 * layout.height ? 'flat' : '', 'data-least': least, 'data-fit': fit, 'data-high': layout.height * Math.min(1, Math.max(least, roomOfPicture()) / layout.width) }, picture);
   figure.style = `--grown: ${grownBy(layout) * layout.width}px; --wide: ${layout.width}px`; // in a lecture it takes the whole width
   return figure;
 }
@@ -187,27 +197,25 @@ function drawExecution(programs, edges, few, panelOf, which = '') {
     sheet.cycle = panelOf(picked?.length > 0 ? picked : few, picked?.length > 0);
     const { picture } = sheet.cycle;
     fit.checked = fitting.isAsked ?? fitsWell(picture);
-    fits.hidden = !isTooLarge(picture);
     picture.classList.toggle('fits', fit.checked);
+    if (isTooLarge(picture)) sheet.cycle.count.after(fits);
     return sheet.cycle.element;
   };
-  const isMany = few.length < edges.length, isLarge = isTooLarge(drawEdges(programs, edges, ''));
-  if (!isMany && isWhole && !isLarge) return draw();
-  const left = isMany ? `Drawn are ${few.length} of ${edges.length} arrows, ${which}.` : isWhole ? '' : 'Cores without an arrow are left out.';
-  const place = html('div', {}, draw()), said = html('span', {}, left), picks = isMany ? pickButtons(edges) : [];
-  const words = html('p', { class: 'buttons small' }, ...(left === '' ? [] : [said]), ...(isMany ? [html('span', {}, 'Pick others:')] : []), ...picks, ...(isLarge ? [fits] : []));
-  const redraw = () => place.replaceChildren(draw());
-  words.addEventListener('change', () => {
-    const { shown } = sheet.cycle;
+  fit.addEventListener('change', () => {
     fitting.isAsked = fit.checked;
-    redraw();
-    sheet.cycle.show(shown);
+    sheet.cycle.picture.classList.toggle('fits', fit.checked);
+    sheet.cycle.keepInSight();
   });
+  const isMany = few.length < edges.length;
+  if (!isMany && isWhole) return draw();
+  const left = isMany ? `Drawn are ${few.length} of ${edges.length} arrows, ${which}.` : 'Cores without an arrow are left out.';
+  const place = html('div', {}, draw()), said = html('span', {}, left), picks = isMany ? pickButtons(edges) : [];
+  const words = html('p', { class: 'buttons small' }, said, ...(isMany ? [html('span', {}, 'Pick others:')] : []), ...picks);
   words.addEventListener('click', ({ target }) => {
     if (!picks.includes(target)) return;
     target.ariaPressed = String(target.ariaPressed !== 'true');
     picked = pickedEdges(edges, picks);
-    redraw();
+    place.replaceChildren(draw());
     putText(said, picked === null ? left : `Drawn are ${picked.length} of ${edges.length} arrows, those at what is picked. Program order that TSO keeps has none.`);
   });
   return html('div', { class: 'drawn-part' }, words, place);

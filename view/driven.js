@@ -66,10 +66,13 @@ function markKeyed(isAsked) {
   for (const { panels } of drawn.panels) panels.forEach(({ element }, core) => element.classList.toggle('chosen', core === drive.core));
 }
 
-/** How a lecture's picture grows: by what at least and at most, in which part of the window's height, and by how wide its lanes have to be. */
-const LECTURED = { least: 1, most: 2.2, high: 0.5, lanes: 492, lane: 122 };
+/** How a lecture's picture grows: by what at least and at most, in which part of the window's height (`higher`, in a low window and in others, where
+ * nothing passes and less is said below), and by how wide its lanes have to be. */
+const LECTURED = { least: 1, most: 2.2, high: 0.5, higher: [0.54, 0.58], lanes: 492, lane: 122 };
 const SCROLLBAR = 17; // pixels, at most
-const frameMost = () => (isLecture() ? LECTURED.high : 0.68) / drawn.picture.zoom; // of the window's height, as the style has it
+const mayPass = program => /MOV \[((?!MFENCE|LOCK|XCHG).)*MOV \w+,\[/.test(program); // a load after a store, with no fence between
+const lecturedPart = programs => (programs.some(mayPass) ? LECTURED.high : LECTURED.higher[innerHeight < 1000 ? 0 : 1]);
+const frameMost = () => (isLecture() ? lecturedPart(firstHistory().programs) : 0.68) / drawn.picture.zoom; // of the window's height, as the style has it
 
 /** By how much the picture is larger than it is drawn, as it is in a lecture and in a large window. */
 const zoomOfPicture = () => Number(getComputedStyle(byId('frame')).zoom) || 1;
@@ -82,9 +85,9 @@ function widthOfCard() {
 
 /** In a lecture the picture is as large as its rows and its lanes have room. */
 function growPicture({ cores, programs }) {
-  const { least, most, high, lanes, lane } = LECTURED, rows = HEAD + mostRows(programs) * ROW + STRIP;
+  const { least, most, lanes, lane } = LECTURED, high = lecturedPart(programs), rows = HEAD + mostRows(programs) * ROW + STRIP;
   const room = Math.min(most, high * innerHeight / rows, widthOfCard() / (GUTTER + 2 + SCROLLBAR + Math.max(lanes, cores * lane)));
-  byId('run').style.setProperty('--zoom', Math.max(least, room).toFixed(2));
+  for (const [name, value] of [['zoom', Math.max(least, room).toFixed(2)], ['part', `${100 * high}vh`]]) byId('run').style.setProperty(`--${name}`, value);
 }
 
 function makePicture() {
@@ -108,7 +111,7 @@ function showPicture() {
   putText(byId('order-title'), isOver ? 'Memory order' : isEmpty ? 'Memory order: no rows yet' : 'Memory order so far');
   const { layout: { top }, extent, bottom } = drawn.picture, most = frameMost() * innerHeight;
   const height = isLecture() ? Math.max(firstHistory().cores > 2 ? 0 : most - 10, top(mostRows(firstHistory().programs)) + STRIP - HEAD) : bottom - HEAD;
-  extent.style.minHeight = isLecture() && height <= most ? `${height}px` : '';
+  extent.style.minHeight = isLecture() ? `${Math.floor(Math.min(height, most))}px` : '';
   byId('frame').classList.toggle('full', height > most);
 }
 

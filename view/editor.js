@@ -21,7 +21,7 @@ function partsOf(text) {
   return { test: at > 0 ? test + '\n' : test, rest: lines.slice(at + 1).join('\n') };
 }
 
-/** Puts a whole input into the fields; a second part with a line `Order` is an order, else choices. */
+/** Puts a whole input into the fields. */
 function putInput(text) {
   const { test, rest } = partsOf(text.replace(/\r\n/g, '\n'));
   const isOrder = rest !== null && /^(Order|Endorder\b.*)$/m.test(rest);
@@ -69,7 +69,7 @@ function seeChoices(isInSight) {
 
 const ROWS = { least: 12, most: 18 }; // of the field of a test, which grows with it
 
-/** Gives a test that has no room beside the settings the whole width, the main button below it, and folds the list. */
+/** Gives a test without room beside the settings the whole width, and folds the list. */
 function showWidth() {
   const { classList, open } = byId('test-part'), field = byId('test'), key = `${Math.max(...field.value.split('\n').map(line => line.length))} ${innerWidth}`;
   if (!open || field.dataset.room === key) return;
@@ -77,8 +77,6 @@ function showWidth() {
   field.dataset.room = key;
   classList.remove('wide');
   if (classList.toggle('wide', field.scrollWidth > field.clientWidth) && !wasWide) byId('library').open = false;
-  const isWide = classList.contains('wide'), buttons = byId('begin').parentElement, place = byId(isWide ? 'brief' : 'settings');
-  if (buttons.parentElement !== place.parentElement) place[isWide ? 'before' : 'after'](buttons);
   if (wasWide) scrollTo(0, top);
 }
 
@@ -137,14 +135,14 @@ function cellsOf(line) {
 /** A hint with the whole of the cell that it quotes cut off. */
 const inFull = (hint, line) => hint.replace(/'([^']+?)\.\.'/, (all, cut) => `'${cellsOf(line).find(({ text }) => text.startsWith(cut))?.text ?? cut}'`);
 
-/** The cell at fault in a line: the hint begins with it, or with a word that it alone has; else null. */
+/** The cell at fault: the hint begins with it, or with a word of it alone; else null. */
 function cellAtFault(line, hint) {
   if (/^X86|[{}]/.test(line) || !/[|;]/.test(line)) return null; // no row of programs
   const said = hint.replace(/^hint: (line \d+: )?'?/, ''), [word] = said.split(/[\s:,]/), cells = cellsOf(line).filter(({ text }) => text !== '');
   const quoted = cells.filter(({ text }) => said.startsWith(text) && !/\w/.test(said[text.length] ?? ''));
   const commaless = said.startsWith('no comma') ? cells.filter(({ text }) => /^\S+\s+[^\s,]+\s+[^,]+$/.test(text)) : [];
   const having = cells.filter(({ text }) => text.toLowerCase().split(/\W+/).includes(word.toLowerCase()));
-  return [quoted, commaless, having].find(found => found.length === 1)?.[0] ?? null;
+  return [said.includes('too many') ? quoted.slice(0, 1) : quoted, commaless, having].find(found => found.length === 1)?.[0] ?? null;
 }
 
 /** Underlines the cell at fault in the band of its line. */
@@ -190,6 +188,7 @@ function focusRefusal() {
 
 /** Hints that name what is certain to be meant, with what is changed, and to what. */
 const CELL = /^'?(.+?)'?(?=:| is).*(?:: write|one step:) ((?:LOCK )?[A-Z]+(?: [^\s;]+)?)(; leave out the ;.*)?\s*$/, SIGNS = { '&': '/\\', a: '/\\', '|': '\\/', o: '\\/', '=': '=' };
+const THREE = /three cells: (MOV \S+) {2}(.+?) {2}(MOV \S+), with a free/;
 const REPAIRS = [
   [/^(\w+) (?:is no register|has 64 bits).*write (\w+)\s*$/, ([, word, other]) => [new RegExp(`\\b${word}\\b`, 'gi'), other]],
   [/^([\w ]+?)(?: is no instruction| isn't read)?: write (~?exists|forall|[A-Z]+)\s*$/, ([, word, other]) => [new RegExp(`\\b${word}\\b`, 'gi'), other]],
@@ -199,123 +198,133 @@ const REPAIRS = [
   [/^no ; ends th(is|e) row/, () => [/\s*$/, ' ;']],
   [/^('[&|=]'|and|or): in a condition/, () => [/&&?|\|\|?|==|\b(?:and|or)\b/g, ([first]) => SIGNS[first]]],
 ];
-const LISTING = /^(hint: line \d+: )?(instructions alone|this is an assembler|this is a disassembly)/;
-const ADDRESS = /^\s*[\da-f]+:\s*(?:[\da-f]{2}(?:\s+|$))*/; // and bytes
-const PLACE = /-?\w+(?=\(%rip\))|\[rip ?[+-] ?\w+\]/;
 const MOST_REPAIRED = 256; // as many cells as a test has
-const MOST_SAID = 4; // kinds of changes
 
-/** A listing; a disassembly without addresses and bytes, with the names of its comments and relocations. */
-const plainListing = (text, hint) => (!hint.includes('disassembly') ? text : text.split('\n').map((line, at, lines) => {
-  const [, name] = /<(\w+)(?:@[\w.@]*)?>\s*$/.exec(line) ?? /R_X86\w+\s+(\w+)/.exec(lines.slice(at + 1, at + 3)) ?? [];
-  const plain = line.replace(ADDRESS, '').replace(/\b0x[\da-f]+/g, Number);
-  return name === undefined ? plain : plain.replace(PLACE, place => name + (place.startsWith('[') ? '[rip]' : ''));
-}).join('\n'));
-
-/** The first line of a listing that can't stand in a test, and what is said of all such, or null. */
-function barredIn(listing) {
-  const all = [...listing.matchAll(/^[ \t]*((?:j|loop|call|set)\w*|(?:test|cmp)[bwlq]?)(?!\S)/gim)].map(({ 1: word, index }) => [countLines(listing.slice(0, index)), word]);
-  const said = listed(all.slice(0, MOST_SAID).map(([line, word]) => `line ${line} (${word})`)).slice(1);
-  const nameless = listing.search(/\b\d+[([]%?rip|\[rip ?[+-] ?\d/);
-  if (all.length > 0) return { field: 'test', line: all[0][0], said: `L${said}: there are no jumps, compares or calls here. Keep what the cores do alone, by the one way that is taken: without such lines this can be written as a test.` };
-  return nameless < 0 ? null : { field: 'test', line: countLines(listing.slice(0, nameless)), said: 'This listing has no names of locations: paste what gcc -S writes, or objdump -dr of an object file.' };
-}
-
-/** A listing as a test: what follows each label is a core's. Null where it can't be one. */
-function listingAsTest(listing) {
-  const written = listing.replace(/\[rip ?\+ ?(\w+)\]/gi, '$1[rip]'), places = /\b(?:r\d+|[re]?(?:[a-d]x|[sd]i|[sb]p)|[a-d][lh])(?=\(%rip\)|\[rip\]|:\s+\.(?:long|int|quad))/gi; // named as registers are
-  const other = name => (written.includes(`_${name}`) ? other(`_${name}`) : `_${name}`), text = written.replace(places, other);
-  const cores = [[]], left = /^$|^\.|^(ret|endbr64|nop|leave|push|pop|R_X86|cs nop|data16|hlt|xchg %?ax, ?%?ax)|file format|^mov.*(bp\W.*sp|sp\W.*bp)/i;
-  if (barredIn(text)) return null;
-  for (const line of text.split('\n').map(each => each.replace(/(#|;|\/\/).*/, '').replace(/\s+/g, ' ').trim()).filter(each => !left.test(each))) {
-    if (/:$/.test(line)) cores.push([]);
-    else if (cores.at(-1).push(line) && !/^[a-z]/i.test(line)) return null;
-  }
-  const programs = cores.filter(core => core.length > 0), most = Math.max(...programs.map(core => core.length));
-  const start = [...text.matchAll(/^(\w+):\s+\.(?:long|int|quad)\s+([1-9]\d*)\s*(?:#.*)?$/gm)].map(([, name, word]) => ` ${name}=${word};`).join('');
-  const row = at => ` ${programs.map((core, number) => (at < 0 ? `P${number}` : core[at] ?? '')).join(' | ')} ;\n`;
-  return most > 0 ? { text: `X86 pasted\n{${start} }\n${Array.from({ length: most + 1 }, (_, at) => row(at - 1)).join('')}`, isOther: true, said: `a test of ${programs.length} core${programs.length === 1 ? '' : 's'}${[...new Set(written.match(places))].map(name => `, location ${name} became ${other(name)}`).join('')}` } : null;
-}
+/** A test without types in its initial state. */
+const untyped = test => test.replace(/\{[^}]*\}/, block => block.replace(/(?:\b[a-z_]\w*\s+)+([\w:]+\s*;[ \t]*\n?|(?=\[?[\w:]+\]?\s*=))/gi, ''));
 
 /** A test of X86_64 as one of X86, without types. */
 function narrowed(test) {
-  const items = /\bu?int(32|64)_t\s+([\w:]+\s*;[ \t]*\n?|(?=[\w:]+\s*=))/g, names = /\br([a-d]x|[sd]i)\b/gi;
-  const text = test.replace('X86_64', 'X86').replace(items, '').replace(names, (all, rest) => `E${rest.toUpperCase()}`);
+  const text = untyped(test).replace('X86_64', 'X86').replace(/\br([a-d]x|[sd]i)\b/gi, (all, rest) => `E${rest.toUpperCase()}`);
   return { text, isOther: true, said: 'X86_64 became X86, with registers of 32 bits' };
 }
 
 const PLAIN_REGISTERS = ['EAX', 'EBX', 'ECX', 'EDX', 'ESI', 'EDI'];
 
-/** A test in which a register as R8D is one that its core doesn't use; null where none is left. */
-function renamed(lines, at, name) {
-  const [first, last] = [lines.findIndex(line => /^\s*P\d+\s*[|;]/.test(line)), lines.findLastIndex(line => /;\s*$/.test(line))];
-  const named = new RegExp(`\\b${name.replace(/^(r\d+)d?$/i, '$1d?')}\\b`, 'gi'), core = cellsOf(lines[at]).findIndex(({ text }) => text.search(named) >= 0), places = new RegExp(`\\b${core}:\\w+`, 'g');
+/** The first and the last line of the programs of a test. */
+const spanOf = lines => [lines.findIndex(line => /^\s*P\d+\s*[|;]/.test(line)), lines.findLastIndex(line => /;\s*$/.test(line))];
+
+const freeRegister = used => PLAIN_REGISTERS.find(each => !new RegExp(`\\b[ER]?${each.slice(1)}\\b`, 'i').test(used));
+
+/** A test in which a register as R8D is one that its core doesn't use; null where none is left. Its bare name in the condition
+ * is meant too, where in the text as it was `written` no other core has it, and no location. */
+function renamed(given, at, name, written) {
+  const [first, last] = spanOf(given);
+  const named = new RegExp(`\\b${name.replace(/^(r\d+)d?$/i, '$1d?')}\\b`, 'gi'), core = cellsOf(given[at]).findIndex(({ text }) => text.search(named) >= 0), places = new RegExp(`\\b${core}:\\w+`, 'g');
+  const asked = given.findIndex(line => quantifierOf(line) !== null), bare = new RegExp(`(?<![\\w:[])${name}\\b`, 'gi');
+  const isMeant = asked >= 0 && !new RegExp(`[[{;] *${name}\\b`, 'i').test(written) && written.split('\n').slice(first + 1, asked).flatMap(cellsOf).every(each => each.core === core || each.text.search(named) < 0);
+  const lines = given.map((line, row) => (isMeant && row >= asked ? line.replace(bare, `${core}:$&`) : line));
   let changed = '';
   const write = become => lines.map((line, row) => (row > first && row <= last ? line.split('|').map((part, column) => (column === core ? become(part) : part)).join('|') : line.replace(places, become))).join('\n');
   write(part => { changed += part; return part; });
-  const free = PLAIN_REGISTERS.find(each => !new RegExp(`\\b[ER]?${each.slice(1)}\\b`, 'i').test(changed));
+  const free = freeRegister(changed);
   return free && core >= 0 ? { text: write(part => part.replace(named, free)), isOther: true, said: `P${core}: ${name} became ${free}` } : null;
 }
 
+/** A hint, or one of the line that it means, where that is a row which lacks its ; alone. */
+function rowHint(test, hint) {
+  const [said, number] = /^hint: line (\d+): (?:no ; (?:or \||ends the row of cores)|a condition begins with|\w+ begins a row as in C)/.exec(hint) ?? [], lines = test.split('\n');
+  const head = lines.findIndex(line => /^\s*P0\b/.test(line)), at = said?.includes('cores') ? head : number - 1, line = lines[at] ?? '';
+  const isRow = head >= 0 && at >= head && cellsOf(line).length === cellsOf(lines[head]).length && /^\s*[a-z][\w\s|$[\],=]*$/i.test(line);
+  return isRow ? `hint: line ${at + 1}: no ; ends this row ` : hint;
+}
+
+/** A test with a change of memory without LOCK as three instructions, by a free register of the core; else null. */
+function spread(test, at, [, ...three], named, cell) {
+  const { before, cells, after } = programsIn(test) ?? {}, place = at - before?.length, core = cells?.[place]?.indexOf(cell) ?? -1;
+  const column = cells?.map(row => row[core]) ?? [], free = freeRegister([...column, ...test.match(new RegExp(`\\b${core}:\\w+`, 'g')) ?? []].join(' '));
+  if (core < 0 || !free) return null;
+  const become = three.map(text => text.replace(named, free)), now = [...column.slice(0, place), ...become, ...column.slice(place + 1).filter(text => text !== '')];
+  const rows = Array.from({ length: Math.max(cells.length, now.length) }, (_, row) => (cells[row] ?? cells[0].map(() => '')).with(core, now[row] ?? ''));
+  return { text: [...before, ...rows.map(row => ` ${row.join(' | ')} ;`), ...after].join('\n'), isOther: true, said: `P${core}: ${cell} became ${listed(become)}` };
+}
+
 /** A test with what its hint says, and what became of what; else null. */
-function repaired(test, hint = '') {
+function repaired(test, told = '', written = test) {
+  const hint = rowHint(test, told);
   const [, number, said = ''] = /^hint: line (\d+): (.*)/.exec(hint) ?? [], at = number - (said.includes('cores in the line before') ? 2 : 1), lines = test.split('\n'), line = lines[at] ?? '';
-  if (LISTING.test(said)) return listingAsTest(plainListing(test, said));
+  const listing = LISTING.test(said) && plainListing(test, said);
+  if (listing) return barredIn(listing) ? straight(listing) : listingAsTest(listing);
   if (/^X86_64 tests|X86 in place of X86_64/.test(said)) return narrowed(test);
+  if (said.includes('is a type') && untyped(test) !== test) return { text: untyped(test), said: 'items without types' };
   const [, foreign] = / is for (\w+): take/.exec(said) ?? [];
-  if (foreign) return renamed(lines, at, foreign);
+  if (foreign) return renamed(lines, at, foreign, written);
+  const three = THREE.exec(said), [, quoted] = /^'(.+?)':/.exec(inFull(said, line)) ?? [];
+  if (three) return spread(test, at, three, said.slice(-3), quoted);
   const [, cell, other, isEnded] = CELL.exec(inFull(said, line)) ?? [], cells = cellsOf(line).filter(({ text }) => text === cell), [pattern, change] = REPAIRS.find(each => each[0].test(said)) ?? [];
   const inCell = part => (plainCell(part) === cell ? part.replace(part.trim(), () => other) : part), [from, to] = cells.length > 0 || !pattern ? [/[^|;]+/g, inCell] : change(pattern.exec(said));
   if (cells.length === 0 && !(pattern && from.test(line))) return null;
   const parts = cells.length > 0 ? [cell] : [...new Set(line.match(from))], isOther = !parts[0].toUpperCase().startsWith(other?.split(' ')[0]);
   const become = cells.length > 0 ? () => other : to, became = part => (part.trim() === '' ? '; was added' : `${part.replace(/ +/g, ' ')} became ${typeof become === 'string' ? become : part.replace(from, become)}`);
   lines[at] = (isEnded ? line.replace(/;(?=.*[|;])/, '') : line).replace(from, to);
-  return { text: lines.join('\n'), isOther, line: at + 1, said: parts.map(became).join(', ') };
+  return { text: lines.join('\n'), isOther, line: at + 1, cores: cells.map(({ core }) => `P${core}`), said: parts.map(became).join(', ') };
 }
 
-/** What places became, each kind once, in the order of lines: of many those that have another instruction now. */
-function changesSaid(found) {
+/** What places became, each kind once, in the order of lines: of many those with another instruction; of a listing by cores. */
+function changesSaid(found, isListing) {
   const kinds = new Map();
-  for (const { said, line } of found.toSorted((one, other) => Boolean(other.isOther) - Boolean(one.isOther))) kinds.set(said, [...(kinds.get(said) ?? []), ...(line ? [line] : [])]);
+  for (const { said, line, cores = [] } of found.toSorted((one, other) => Boolean(other.isOther) - Boolean(one.isOther))) kinds.set(said, [...(kinds.get(said) ?? (line ? [line] : [])), ...(isListing ? cores : line ? [line] : [])]);
   const all = [...kinds], more = all.splice(MOST_SAID).length;
-  return `${all.sort(([, [one = 0]], [, [other = 0]]) => one - other).map(([said, lines]) => (lines.length === 0 ? said : `line${lines.length > 1 ? 's' : ''} ${listed(lines)}: ${said}`)).join('; ')}${more > 0 ? `; and ${more} more` : ''}. Undo takes all back. `;
+  return `${all.sort(([, [one = 0]], [, [other = 0]]) => one - other).map(([said, [, ...places]]) => (places.length === 0 ? said : `${isListing ? '' : places.length > 1 ? 'lines ' : 'line '}${listed([...new Set(places)])}: ${said}`)).join('; ')}${more > 0 ? `; and ${more} more` : ''}. Undo takes all back. `;
+}
+
+/** A test's programs as cells, and the lines around them; null where a row isn't plain. */
+function programsIn(test) {
+  const lines = test.split('\n'), [first, last] = spanOf(lines), rows = lines.slice(first, last + 1), cells = rows.map(line => cellsOf(line).map(each => each.text));
+  if (first < 0 || rows.some((line, at) => /\(\*|;.*;|^[^;]*$/.test(line) || cells[at].length !== cells[0].length)) return null;
+  return { before: lines.slice(0, first), cells, after: lines.slice(last + 1) };
 }
 
 /** A test whose programs have their columns aligned; as it is where a row isn't plain. */
 function aligned(text) {
-  const lines = text.split('\n'), first = lines.findIndex(line => /^\s*P\d+\s*[|;]/.test(line)), last = lines.findLastIndex(line => /;\s*$/.test(line));
-  const rows = lines.slice(first, last + 1), cells = rows.map(line => cellsOf(line).map(each => each.text)), widths = cells[0]?.map((_, core) => Math.max(...cells.map(row => row[core]?.length)));
-  if (first < 0 || rows.some((line, at) => /\(\*|;.*;|^[^;]*$/.test(line) || cells[at].length !== widths.length)) return text;
-  return [...lines.slice(0, first), ...cells.map(row => ` ${row.map((cell, core) => cell.padEnd(widths[core])).join(' | ')} ;`), ...lines.slice(last + 1)].join('\n');
+  const { before, cells, after } = programsIn(text) ?? {}, widths = cells?.[0].map((_, core) => Math.max(...cells.map(row => row[core].length)));
+  return cells ? [...before, ...cells.map(row => ` ${row.map((cell, core) => cell.padEnd(widths[core])).join(' | ')} ;`), ...after].join('\n') : text;
 }
 
-/** Programs in capitals, but for locations, which stand in brackets. */
-const inCapitals = text => text.replace(/^.*;$/gm, row => row.replace(/(?<!\[)\b\w+|, /g, part => part.trim().toUpperCase()));
+/** Programs in capitals, but for locations, which stand in brackets; numbers with a `$`. */
+const inOneForm = text => text.replace(/^.*;$/gm, row => row.replace(/(?<!\[)\b\w+|, /g, part => part.trim().toUpperCase()).replace(/,(?=[-\d])/g, ',$$'));
 
-/** A condition over what a test loads, each 0; empty where it loads nothing. */
+/** A condition over what a test loads and keeps, each 0; else what it changes, each 1; else none. */
 function conditionOver(test) {
-  const loaded = readTest(test).programs.flatMap((program, core) => program.filter(text => text.includes('[')).flatMap(writtenBy).map(name => `${core}:${name}=0`));
-  return loaded.length > 0 ? `exists (${[...new Set(loaded)].join(' /\\ ')})\n` : '';
+  const ends = readTest(test).programs.flatMap((program, core) => [...new Map(program.flatMap(text => writtenBy(text).map(name => [`${core}:${name}=0`, text])))]);
+  const loaded = ends.filter(([, text]) => text.includes('[')).map(([asks]) => asks), changed = [...new Set(test.match(/\w+(?=\],E)/g))].map(name => `${name}=1`);
+  const asks = loaded.length > 0 ? loaded : changed;
+  return asks.length > 0 ? `exists (${asks.join(' /\\ ')})\n` : '';
+}
+
+/** A test with all that is certain to be meant, and the status of its answer. */
+function allRepaired(text, hint, options = { command: 'run' }) {
+  const changes = [], written = text;
+  let status;
+  for (let found = repaired(text, hint, written); found !== null && changes.length < MOST_REPAIRED; found = repaired(text, hint, written)) {
+    ({ text } = found);
+    changes.push(found);
+    ({ hint, status } = asked(options, text));
+  }
+  return { text, changes, status };
 }
 
 /** Writes what is certain to be meant, up to a mistake that leaves a choice: one edit. */
 function writeRepairs() {
   const field = byId('test'), { options } = readSettings('run');
-  const changes = [];
   notice.test = null; // what was said of it goes
-  let { hint, status } = bench.answer, { value: text } = field;
-  const isListing = LISTING.test(hint);
-  for (let found = repaired(text, hint); found !== null && changes.length < MOST_REPAIRED; found = repaired(text, hint)) {
-    ({ text } = found);
-    changes.push(found);
-    ({ hint, status } = asked(options, text));
-  }
+  const isListing = LISTING.test(bench.answer.hint), { text, changes, status } = allRepaired(field.value, bench.answer.hint, options);
   const isTest = isListing && status !== Tso.STATUS.refused, askedFor = isTest ? conditionOver(text) : '';
   undoing.field = null;
   field.focus();
   field.select();
-  document.execCommand('insertText', false, aligned(isTest ? inCapitals(text) : text) + askedFor); // which the field can undo, too
-  const said = `Written: ${changesSaid(changes)}${askedFor && 'Write into exists what you ask for. '}`, isRefused = bench.answer?.status === Tso.STATUS.refused;
+  document.execCommand('insertText', false, aligned(isTest ? inOneForm(text) : text) + askedFor); // which the field can undo, too
+  const said = `Written: ${changesSaid(changes, isListing)}${askedFor && 'Write into exists what you ask for. '}`, isRefused = bench.answer?.status === Tso.STATUS.refused;
   if (isRefused) focusRefusal();
   else notice.said = said + noticeOf(inputOf('sweep')); // while the test is the same
   putText(document.querySelector('.noticed'), isRefused ? said : notice.said);
@@ -326,19 +335,22 @@ const withCode = said => said === '' ? [] : said.split(/(\B'[^']+'(?=:| )|(?:\bL
   .map((part, at) => (at % 2 ? html('code', {}, part.replace(/^'(.*)'$/, '$1')) : part));
 
 /** Marks what is refused, or nothing, and says it in plain words. */
-function markRefusal({ text: line, hint }) {
-  const test = byId('test').value, place = (LISTING.test(hint) && barredIn(plainListing(test, hint))) || placeOfRefusal(line, hint), written = test.split('\n')[place?.line - 1] ?? '';
-  const said = inFull(hint ?? '', written), cell = place?.field === 'test' ? cellAtFault(written, said) : null;
+function markRefusal({ text, hint: given }) {
+  const test = byId('test').value, told = given ?? '', hint = rowHint(test, told), line = hint === told ? text : text.replace(/line \d+/, /line \d+/.exec(hint));
+  const place = (LISTING.test(hint) && barredIn(plainListing(test, hint))) || placeOfRefusal(line, hint), written = test.split('\n')[place?.line - 1] ?? '';
+  const said = inFull(hint, written), cell = place?.field === 'test' && place.line > spanOf(test.split('\n'))[0] ? cellAtFault(written, said) : null;
   const before = place?.field === 'test' ? document.querySelector('.writing .noticed') : byId('given-part');
   if (before.nextElementSibling !== byId('told')) before.after(byId('told')); // next by Tab
-  byId('plain').replaceChildren(...withCode(place?.said ?? plainRefusal(place, cell, line, said)));
+  const isBarred = place?.said !== undefined, isOffered = place?.field === 'test' && (isBarred ? (allRepaired(test, hint).status ?? Tso.STATUS.refused) !== Tso.STATUS.refused : repaired(test, hint) !== null);
+  const [, offered] = (isOffered && OFFERED.find(([theirs]) => theirs.test(hint))) || [];
+  byId('plain').replaceChildren(...withCode(place?.said ?? (offered ? `Line ${place.line}: ${offered}.` : plainRefusal(place, cell, line, said))));
   byId('told').classList.toggle('by-hint', place?.line !== undefined);
   for (const id of ['test', 'given']) drawLines(id, place?.field === id && place.line ? place.line : null);
   markCell(cell);
   for (const id of ['test', 'choices', 'given']) byId(id).setAttribute('aria-invalid', String(place?.field === id));
   byId('remove-choices').hidden = !place?.word;
-  byId('write-so').hidden = place?.field !== 'test' || repaired(test, hint) === null;
-  byId('write-so').textContent = LISTING.test(hint) ? 'Write it as a test' : 'Write it so';
+  byId('write-so').hidden = !isOffered;
+  byId('write-so').textContent = isBarred ? 'Leave these lines out' : LISTING.test(hint) ? 'Write it as a test' : 'Write it so';
 }
 
 /** Removes choices that are refused, which shows the machine again. */

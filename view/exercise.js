@@ -31,8 +31,10 @@ function showExercise(after = '') {
     putOff(button, thought !== null); // the one that was pressed keeps the focus
     button.setAttribute('aria-pressed', String(button.dataset.thought === thought));
   }
-  const [said, open] = thought === null ? ['', 'Try it below, then say what you think.'] : [exercise.judged ?? `You said: ${thoughtSaid()}.`, exercise.judged ? '' : ' “Why can or can\'t it be?” tells whether that is so.'];
-  putText(byId('exercise-thought'), (said + (after || open)).trim());
+  const isOpen = thought !== null && !exercise.judged, said = thought === null ? '' : exercise.judged ?? `You said: ${thoughtSaid()}.`;
+  const parts = [(said + (after || (thought === null ? 'Try it below, then say what you think.' : ''))).trim()];
+  if (isOpen) parts.push(' ', html('button', { type: 'button', class: 'quiet', 'data-ask': 'why' }, 'Why can or can\'t it be?'), after ? '' : ' tells whether that is so.');
+  putChildren(byId('exercise-thought'), parts.map(part => part.nodeType ? part : new Text(part)));
 }
 
 /** Puts the answers behind the question; where that is the teacher's own, behind the condition, which they answer. */

@@ -21,19 +21,19 @@ function putFormats(known) {
   showWordsLine(currentCommand());
 }
 
-/** Up to how many states a search is known that didn't end: where somebody stopped it, less than its limit. */
+/** Up to how many states an unended search is known: less than its limit where somebody stopped it. */
 const limitMet = () => JSON.parse(formats.texts.json ?? '{}').unfinished?.states;
 
 /** Asks for a form that isn't known: of a run at once, of a search in a worker. */
 async function askFormat(name) {
-  const command = currentCommand(), { options } = readSettings(command), input = inputOf(command);
+  const command = currentCommand(), { options } = readSettings(command), input = searchedInput(command);
   const question = { ...options, states: limitMet() ?? options.states ?? Tso.DEFAULTS.states, json: name === 'json' };
   if (command === 'run') return asked(question, drive.isOn ? driveInput() : input).text;
   const task = formats.task = beginTask(bench.bytes, [question], input), [{ text }] = await task.answers;
   return text;
 }
 
-/** JSON in lines: one for each member, and one for each part of a list that holds more than words and numbers. */
+/** JSON in lines, one for each member and for each part of a list of objects. */
 function inLines(text) {
   const isLong = value => Array.isArray(value) && value.some(part => typeof part === 'object');
   const lineOf = value => (isLong(value) ? `[\n${value.map(part => `    ${JSON.stringify(part)}`).join(',\n')}\n  ]` : JSON.stringify(value));
@@ -57,7 +57,7 @@ async function showFormat() {
   if (formats.texts !== texts || formatNow() !== name) return;
   byId('report').textContent = laidOut(texts[name], name);
   putReportKey(texts[name]);
-  putText(byId('report-note'), byId('states').querySelector('.ways-said')?.textContent ?? '');
+  putText(byId('report-note'), [...byId('states').querySelectorAll('.ways-said')].map(said => said.textContent).join(' '));
 }
 
 /** What stands in the field of the report, as a file. */

@@ -170,7 +170,7 @@ function showTask(history, count, run) {
   classList.toggle('short', !isExercise() && (CLAIMS[quantifier] + taskSentence(testName(), proposition, quantifier, history.programs)).length <= SHORT_TASK);
   classList.toggle('asked', met !== true && possible.isAsked && !isOpen); // so that its title doesn't change before one's eyes
   putText(byId('task-said'), isAsked ? '' : taskWords(quantifier, proposition, { isDone, isShown: met === true && !isDone }, met ? true : can));
-  const offers = (isDone || (met === false && can !== true)) && !isUnanswered() && document.querySelector('#commands [value=why]') !== null;
+  const offers = (isDone || (met === false && can !== true && !isExercise())) && !isUnanswered() && document.querySelector('#commands [value=why]') !== null;
   showExercise(after);
   putText(byId('task-after'), isExercise() ? '' : after);
   putText(byId('task-more'), isExercise() ? '' : moreOfTry(history, count, met));

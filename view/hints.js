@@ -1,6 +1,6 @@
 'use strict';
 
-// Hints in the page's own words: here are fields and buttons, and no command line.
+// Hints in the page's own words: here are fields and buttons, and no command line. And listings of compilers as tests.
 
 const IN_WORDS_OF_THE_PAGE = [
   [/no test: give one on standard input, as in: tso [a-z]+ < FILE/, 'there is no test yet: write one, or take one of the examples'],
@@ -19,6 +19,8 @@ const IN_WORDS_OF_THE_PAGE = [
   [/(?:no register can hold an address|there is no stack).*/, '$&. Or compile with -O1'],
   [/(C is a language|this is C): .*/, 'this is C, and here are x86 instructions: “From C and C++” below says which'],
   [/(; stands behind )?\bfence( isn't read|:).*/i, 'fence: write MFENCE'],
+  [/'[^']*\[(\w+)\][^']*' is one too many: .* (\d+) locations/, (all, name, most) => `${name} is the ${Number(most) + 1}th location: at most ${most}`],
+  [', and items have no types here', ', and items of { } have none'],
   ['the tool import', 'the program tools/import of a checkout'],
   [/: an input has only one, so.*/, ': one test at a time'],
   [' after ====: ', ' of it: '],
@@ -54,15 +56,34 @@ function unwrittenSaid(test) {
   return [...words].map(([name, { core, word }]) => `the condition names ${name}, which no instruction of P${core} writes: it stays ${word}.`);
 }
 
+/** The locations that the condition of a test alone names: they stay 0. */
+function strayNames(test) {
+  const { programs, proposition } = readTest(test), others = `${programs}${/\{[^}]*/.exec(test)}`;
+  return [...new Set((proposition ?? '').match(/(?<![\w:])[a-z_]\w*(?=\]?\s*=)/gi))].filter(name => !new RegExp(`\\b${name}\\b`).test(others));
+}
+
+const straySaid = test => strayNames(test).map(name => `${name} is no location of this test, so it stays 0.`).join(' ');
+
+/** The same before an answer. */
+const strayPart = test => [straySaid(test)].filter(Boolean).map(said => html('p', { class: 'stray' }, said));
+
+const lineOfCondition = test => test.split('\n').findIndex(text => quantifierOf(text) !== null) + 1;
+
 /** What is said of a condition that names what nothing writes: the hint of a short sweep. */
 function noticeOf(test) {
   if (notice.test === test) return notice.said;
-  const found = /the condition names [^]*stays \d+/.exec(asked({ command: 'sweep', seeds: 1 }, test).hint);
-  const isNew = said => !found?.[0].includes(said.slice(0, said.indexOf(',')));
-  const said = [...(found === null ? [] : [`${found[0].replace(/core (?=\d)/g, 'P')}.`]), ...unwrittenSaid(test).filter(isNew)];
-  const line = test.split('\n').findIndex(text => quantifierOf(text) !== null) + 1;
-  Object.assign(notice, { test, said: said.length === 0 ? '' : `Note, line ${line}: ${said.join(' And ')}` });
+  const [found = ''] = /the condition names .*, which no instruction [^]*stays \d+/.exec(asked({ command: 'sweep', seeds: 1 }, test).hint) ?? [];
+  const isNew = said => !found.includes(said.slice(0, said.indexOf(',')));
+  const said = [straySaid(test), found && `${found.replace(/core (?=\d)/g, 'P')}.`, ...unwrittenSaid(test).filter(isNew)].filter(Boolean);
+  Object.assign(notice, { test, said: said.length === 0 ? '' : `Note, line ${lineOfCondition(test)}: ${said.join(' And ')}` });
   return notice.said;
+}
+
+/** The refusal of a condition that has a register without its core, as r0, which nothing before it names; else undefined. */
+function refusalOfBare(test) {
+  const at = lineOfCondition(test), lines = test.split('\n'), before = lines.splice(0, at - 1).join();
+  const name = at > 0 && lines.join().match(/(?<![\w:])r\d+(?=\]?\s*=)/gi)?.find(each => !new RegExp(`\\b${each}\\b`).test(before));
+  return name ? { status: Tso.STATUS.refused, text: `Refused test line ${at} BadCondition`, hint: `hint: line ${at}: ${name} is no location of this test: write the register with its core, as 0:EAX` } : undefined;
 }
 
 /** A hint of a limit, a sentence a line; of many choices the first twelve. */
@@ -73,4 +94,61 @@ function pageHint(hint) {
   const said = IN_WORDS_OF_THE_PAGE.reduce((said, [theirs, ours]) => said.replace(theirs, ours), hint);
   const named = said.replace(/--([a-z]+)/g, (word, name) => (SET_NAMES.includes(name) ? `“${labelText(name)}”` : word)).trim();
   return /more than \d+ (?:states|cases)/.test(named) ? linesOfLimit(named) : named;
+}
+
+const LISTING = /^(hint: line \d+: )?(instructions alone|this is an assembler|this is a disassembly)/;
+const OFFERED = [[LISTING, 'this is a listing. The button makes a test of it'], [/X86_64/, 'this is a test of X86_64. The button makes it one of X86, with registers of 32 bits']];
+const ADDRESS = /^\s*[\da-f]+:\s*(?:[\da-f]{2}(?:\s+|$))*/; // and bytes
+const PLACE = /-?\w+(?=\(%rip\))|\[rip ?[+-] ?\w+\]/;
+const MOST_SAID = 4; // kinds of changes
+
+/** A listing; a disassembly without addresses and bytes, with the names of its comments and relocations. */
+const plainListing = (text, hint) => (!hint.includes('disassembly') ? text : text.split('\n').map((line, at, lines) => {
+  const [, name] = /<(\w+)(?:@[\w.@]*)?>\s*$/.exec(line) ?? /R_X86\w+\s+(\w+)/.exec(lines.slice(at + 1, at + 3)) ?? [];
+  const plain = line.replace(ADDRESS, '').replace(/\b0x[\da-f]+/g, Number);
+  return name === undefined ? plain : plain.replace(PLACE, place => name + (place.startsWith('[') ? '[rip]' : ''));
+}).join('\n'));
+
+/** The first line of a listing that can't stand in a test, and what is said of all such, or null. */
+function barredIn(listing) {
+  const all = [...listing.matchAll(/^[ \t]*((?:j|loop|call|set)\w*|(?:test|cmp)[bwlq]?)(?!\S)/gim)].map(({ 1: word, index }) => [countLines(listing.slice(0, index)), word]);
+  const said = listed(all.slice(0, MOST_SAID).map(([line, word]) => `line ${line} (${word})`)).slice(1);
+  const nameless = listing.search(/\b\d+[([]%?rip|\[rip ?[+-] ?\d/);
+  if (all.length > 0) return { field: 'test', line: all[0][0], said: `L${said}: there are no jumps, compares or calls here. Without such lines this can be a test, of the one way that takes no jump.` };
+  return nameless < 0 ? null : { field: 'test', line: countLines(listing.slice(0, nameless)), said: 'This listing has no names of locations: paste what gcc -S writes, or objdump -dr of an object file.' };
+}
+
+const JUMP = /^\s*(?:j(?!mp)\w+|(?:test|cmp)[bwlq]?)(?!\S)/i;
+
+/** A listing as a test of its straight way: no jumps, no function that calls others. Null where it can't be one. */
+function straight(listing) {
+  const left = [], lines = listing.split(/^(?=[^\s.#].*:)/m).map(part => {
+    if (!/^\s*call/m.test(part) || (!/^\W*main\b/.test(part) && part.includes('rip'))) return part;
+    left.push(/\w[^:>]*/.exec(part)[0]);
+    return part.replace(/.+/g, '');
+  }).join('').split('\n');
+  let hasEnded = false; // what stands behind its return is another way
+  const found = listingAsTest(lines.map((line, at) => {
+    hasEnded = !/^[^\s.#].*:/.test(line) && (hasEnded || /^\s*ret/.test(line));
+    if (JUMP.test(line) || (hasEnded && /^\s*(?!ret|nop|data|cs |xchg\s+%?ax)[a-z]/.test(line))) left.push(`line ${at + 1}`);
+    else if (!hasEnded) return line;
+    return '';
+  }).join('\n'));
+  return found && { ...found, said: `${found.said}; left out: ${listed(left)}: the way that takes no jump or call` };
+}
+
+/** A listing as a test: what follows each label is a core's. Null where it can't be one. */
+function listingAsTest(listing) {
+  const written = listing.replace(/\[rip ?\+ ?(\w+)\]/gi, '$1[rip]'), places = /\b(?:r\d+|[re]?(?:[a-d]x|[sd]i|[sb]p)|[a-d][lh])(?=\(%rip\)|\[rip\]|:\s+\.(?:long|int|quad))/gi; // named as registers are
+  const other = name => (written.includes(`_${name}`) ? other(`_${name}`) : `_${name}`), text = written.replace(places, other);
+  const cores = [[]], left = /^$|^\.|^(ret|endbr64|nop|leave|push|pop|R_X86|cs nop|data16|hlt|xchg %?ax, ?%?ax)|file format|^mov.*(bp\W.*sp|sp\W.*bp)/i;
+  if (barredIn(text)) return null;
+  for (const line of text.split('\n').map(each => each.replace(/(#|;|\/\/).*/, '').replace(/\s+/g, ' ').trim()).filter(each => !left.test(each))) {
+    if (/:$/.test(line)) cores.push([]);
+    else if (cores.at(-1).push(line) && !/^[a-z]/i.test(line)) return null;
+  }
+  const programs = cores.filter(core => core.length > 0), most = Math.max(...programs.map(core => core.length));
+  const start = [...text.matchAll(/^(\w+):\s+\.(?:long|int|quad)\s+([1-9]\d*)\s*(?:#.*)?$/gm)].map(([, name, word]) => ` ${name}=${word};`).join('');
+  const row = at => ` ${programs.map((core, number) => (at < 0 ? `P${number}` : core[at] ?? '')).join(' | ')} ;\n`;
+  return most > 0 ? { text: `X86 pasted\n{${start} }\n${Array.from({ length: most + 1 }, (_, at) => row(at - 1)).join('')}`, isOther: true, said: `a test of ${programs.length} core${programs.length === 1 ? '' : 's'}${[...new Set(written.match(places))].map(name => `, location ${name} became ${other(name)}`).join('')}` } : null;
 }

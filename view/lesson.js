@@ -322,8 +322,8 @@ function goOn() {
     return;
   }
   const next = nextLesson();
-  endLesson();
   if (next) beginLesson(next.name);
+  else (ownBefore === null ? endLesson : leaveLesson)();
 }
 
 /** Goes where a step's link leads: to a lesson, or to a fold beside the test. */

@@ -57,6 +57,8 @@ const LESSONS = [{
     { do: '0s', say: 'P0\'s fence.', then: 'P0 may load now.' },
     { do: '0s', say: 'And its load.', then: 'P0 read y=0, since P1\'s store still waits. So both loads read 0.' },
     { do: '1d', say: 'P1\'s store drains last.', then: 'Both loads have read 0. P1\'s fence alone is no better, since the cores are alike. So both need their fence.' },
+    { show: 'why', say: 'Where does the other fence belong? Press “Why can or can\'t it be?”.' },
+    { say: 'Each arrow says what must come before what. The dashed one, from P1\'s store to its load, is what TSO doesn\'t keep. A fence there would keep it, as P0\'s fence does.' },
     { say: 'In C and C++ this fence is atomic_thread_fence(\u200bmemory_order_seq_cst). And x and y have to be atomic, else the compiler may change the order too.' },
     { say: 'What you can say now\n• Both zeros: without fences yes, with one fence yes, with two no.\n• A fence costs the wait for the buffer. So put it only where a load must not pass a store, as in a lock that works by flags.', also: { to: 'from-c', says: 'From C and C++' } },
   ],

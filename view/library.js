@@ -17,7 +17,7 @@ const instructionsIn = text => text.match(/\b(?:LOCK|CMPXCHG|XADD|XCHG|[LMS]FENC
 /** What stands at an order of a test that stands above it. */
 const ORDER_SAID = 'An order in which it would be so, for check.';
 
-/** Of a family the plain test comes first, then those with more in their names; each order comes after its test. */
+/** Of a family the plain test comes first; each order comes after its test. */
 function comesBefore([one], [other]) {
   const [a, b] = [one, other].map(file => file.replace(/\.(litmus|order)$/, '')), more = a.split('+').length - b.split('+').length;
   return more || (a === b ? 0 : a < b ? -1 : 1) || (one < other ? -1 : 1);
@@ -58,7 +58,7 @@ function libraryItem(entry) {
   return html('li', {}, button, entry.said === '' ? '' : ` ${entry.said}`);
 }
 
-/** Lists the texts that are searched for, by family; those to begin with on top, orders folded. */
+/** Lists the texts that are searched for, by family. */
 function showLibrary() {
   const words = wordsOf(byId('search').value), texts = textsHere();
   const found = texts.filter(entry => words.every(word => entry.found.some(each => each.startsWith(word))));

@@ -38,15 +38,17 @@ function stopTask() {
 }
 
 /** Begins a long command in a worker. What is shown stays in sight until there is an answer. One that comes by itself (`isAgain`) is told
- * beside the test; a search that then needs more than `most` states waits until it is asked for. An answer that is there is gone to. */
-async function begin({ isAgain, most = Infinity } = {}) {
+ * beside the test; a search that then needs more than `most` states waits until it is asked for. An answer that is there is gone to, and any where `goesThere`. */
+async function begin({ isAgain, goesThere, most = Infinity } = {}) {
   const command = currentCommand(), { options } = showAsked(command), asks = JSON.stringify([options, inputOf(command)]);
   if (isAgain !== true && bench.told === asks) return focusAnswer();
   if (LONG.includes(command)) bench.last = command;
   stopTask();
   clearTimeout(bench.again);
+  const bare = refusalOfBare(inputOf('sweep'));
+  if (bare) return showAnswer(bare);
   byId('about').open = false;
-  const isCut = most < options.states, began = Date.now(), input = inputOf(command), task = bench.task = beginTask(bench.bytes, questionsOf(command, isCut ? { ...options, states: most } : options), input, tellProgress);
+  const isCut = most < options.states, began = Date.now(), input = inputOf(command), task = bench.task = beginTask(bench.bytes, questionsOf(command, isCut ? { ...options, states: most } : options), searchedInput(command), tellProgress);
   if (command === 'run') showAnswer(NOTHING);
   beginWorking();
   if (isAgain === true) working.asker = byId('test');
@@ -59,7 +61,7 @@ async function begin({ isAgain, most = Infinity } = {}) {
     drawLong(command, answers, options, input);
     bench.told = command === 'run' ? null : asks;
     if (bench.answer.status === Tso.STATUS.refused) focusRefusal();
-    else if (command !== 'run' && !saidInBrief()) focusAnswer();
+    else if (command !== 'run' && (goesThere || !saidInBrief())) focusAnswer();
   } catch (fault) {
     if (bench.task !== task) return;
     stopTask();
@@ -98,7 +100,7 @@ function showUnfinished(command, answer) {
   byId('states').replaceChildren(...unfinishedParts(command));
 }
 
-/** What a task is asked: of a run its report and its line, of outcomes and why the answer of sequential consistency too. */
+/** What a task is asked: of outcomes and why the answer of sequential consistency too. */
 function questionsOf(command, options) {
   if (command === 'run') return [options, { ...options, json: true }];
   if (command === 'outcomes') return [{ ...options, json: true }, ...(options.depth > 0 ? [{ ...options, depth: 0, json: true, after: Tso.STATUS.good }] : []),
@@ -128,12 +130,12 @@ function showOutcomes(answer, beside, test) {
   const said = html('p', { role: 'status' }, ...judgedOutcomes(outcomes, test), verdictOf(observationSentence(outcomes, test)), ...fine);
   const sheetOfAll = statesSheet(outcomes, sequential, truthsOf(outcomes));
   const { proposition } = readTest(test);
-  byId('states').replaceChildren(answerTitle('All outcomes'), said, ...termsPart(proposition && wantedWords(proposition)), ...sheetOfAll, ...outcomesInTerms(outcomes, sequential));
+  byId('states').replaceChildren(answerTitle('All outcomes'), ...strayPart(test), said, ...termsPart(proposition && wantedWords(proposition)), ...sheetOfAll, ...outcomesInTerms(outcomes, sequential));
   showQuestion(test);
   showFoot();
 }
 
-/** Notes where all outcomes say that the task can't be done, and judges what the reader of an exercise had said. */
+/** Notes that a task can't be done, and judges what the reader of an exercise had said. */
 function judgedOutcomes({ observation, depth }, test) {
   if (observation === null || depth !== SET_AT_FIRST.searched) return [];
   const can = (quantifierOf(test) === 'forall' ? observation.false : observation.true) > 0;
@@ -141,7 +143,7 @@ function judgedOutcomes({ observation, depth }, test) {
   return judgeThought(can);
 }
 
-/** Shows what a search had met at its limit or where it was stopped: some final states, or none. */
+/** Shows what a search had met before its end. */
 function showMet(answer, depth, isStopped = false) {
   const met = readMet(answer.text);
   if (met.states.length === 0) return showUnfinished('outcomes', answer);

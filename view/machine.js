@@ -47,7 +47,7 @@ function usedRegisters({ programs, proposition, start }, core) {
 
 /** The registers of these names: those that the step wrote (`just`) stand out, and those that none has written look faint. */
 function registerItems(now, before, written, used, just, named) {
-  if (used.length === 0) return [html('li', { class: 'faint' }, 'none used')];
+  if (used.length === 0) return [html('li', { class: 'faint' }, 'no registers')];
   return used.map(name => html('li', {
     ...marked(written.includes(name) ? 'word written' : 'word plain', just.includes(name)),
     title: written.includes(name) ? `An instruction wrote ${name}.` : `No instruction has written ${name} yet.`,
@@ -173,7 +173,7 @@ class CorePanel {
     this.hasOffered = false;
     this.step.dataset.waits = hasEnded ? '' : waitsFor(this.program, core, this.depth);
     for (const way of ['step', 'drain']) {
-      const ended = way !== 'step' || !isFinished ? '' : core.buffer.length > 0 ? 'no more instructions' : 'finished', code = this[way].lastChild;
+      const ended = way !== 'step' || !isFinished ? '' : core.buffer.length > 0 ? 'at its end' : 'finished', code = this[way].lastChild;
       code.previousSibling.data = ended === '' ? ` ${way} ` : ` ${ended}`;
       putText(code, texts[way]);
       setAll(this[way], { 'aria-label': `P${this.core}: ${ended || `${way} ${texts[way]}`}` });
@@ -222,7 +222,7 @@ function memoryItems(now, before, supply) {
   return Object.keys(now.memory).map(location => {
     const isChanged = now.memory[location] !== before.memory[location] || now.seen[location] !== before.seen[location];
     const isNewer = now.seen[location] !== now.memory[location];
-    return html('li', sourced(marked('word', isChanged), suppliesLine(supply, location)), `${location}=${now.memory[location]}`, ...(isNewer ? [html('span', { class: 'newer' }, ` newest ${now.seen[location]}`)] : []));
+    return html('li', sourced(marked('word', isChanged), suppliesLine(supply, location)), `${location}=${now.memory[location]}`, ...(isNewer ? [withMeaning({ tabindex: -1, class: 'newer' }, 'newest', ` newest ${now.seen[location]}`)] : []));
   });
 }
 

@@ -5,10 +5,11 @@
 const MEANINGS = {
   Program: 'The instructions of this core, from top to bottom. The marked one is next: step does it.',
   Registers: 'Words that belong to this core alone: a load puts what it reads there.',
-  'Store buffer': 'A queue of stores that this core has made and memory has not seen. Only this core sees them there. The oldest, at the right, drains first.',
+  'Store buffer': 'A queue of this core\'s stores that memory has not seen. Only this core sees them. The oldest, at the right, drains first.',
   Cache: 'Copies of lines of memory, each in a state. A store can be written only while this core has the only copy.',
   Bus: 'All caches are on one bus: by it they ask for lines, and see what others ask for.',
-  Memory: 'The word of each location that all cores share. With caches, “newest” is a word that a cache has and memory itself has not yet.',
+  Memory: 'Each location\'s word, shared by all cores.',
+  newest: 'A word that a cache has, and memory itself has not yet.',
   passed: 'A load passes a store that is earlier in its own program, if memory sees the load first. TSO allows it; sequential consistency doesn\'t.',
   order: 'The order in which memory sees loads, stores and fences of all cores: from top to bottom.',
   Under: 'TSO alone: such an end needs store buffers. Sequential consistency has none like it.',
@@ -85,7 +86,14 @@ function isAtRest({ type, screenX: x, screenY: y }) {
   return rests;
 }
 
-/** Shows above a word, or below where there is no room, what it means, at the pointer or the focus. What changes under a pointer that rests does nothing. */
+/** How high an explanation covers least: over its word, below it, or below what it names. */
+function heightOfMeaning(word, { offsetWidth: width, offsetHeight: height }) {
+  const [{ left, top, bottom }, next, ...taken] = [word, word.nextElementSibling ?? word, ...document.querySelectorAll('button, .word, .buffer, .program code')].map(part => part.getBoundingClientRect());
+  const covered = y => taken.filter(part => part.left < left + width && part.right > left && part.top < y + height && part.bottom > y).length;
+  return [top - height - 4, bottom + 4, next.bottom + 4].filter(y => y >= 0 && y + height <= innerHeight).sort((one, other) => covered(one) - covered(other))[0] ?? 0;
+}
+
+/** Shows near a word what it means, at the pointer or the focus. What changes under a pointer that rests does nothing. */
 function showMeaning(event) {
   const word = event.target.closest?.('[data-means]'), box = byId('meaning');
   if (isAtRest(event) || (!word && box.dataset.by !== event.type)) return;
@@ -93,9 +101,9 @@ function showMeaning(event) {
   box.dataset.by = event.type;
   if (!word) return;
   box.textContent = MEANINGS[word.dataset.means];
-  const { left, top, bottom } = word.getBoundingClientRect(), above = top - box.offsetHeight - 4;
-  box.style.left = `${Math.max(4, Math.min(left, document.documentElement.clientWidth - box.offsetWidth - 4))}px`;
-  box.style.top = `${above >= 0 ? above : bottom + 4}px`;
+  box.style.left = 0; // where it has its whole width
+  box.style.left = `${Math.max(4, Math.min(word.getBoundingClientRect().left, document.documentElement.clientWidth - box.offsetWidth - 4))}px`;
+  box.style.top = `${heightOfMeaning(word, box)}px`;
 }
 
 for (const kind of ['pointerover', 'focusin']) document.addEventListener(kind, showMeaning);

@@ -5,7 +5,7 @@
 /** What `outcomes --json` says; of a search that met its limit how many states weren't enough. */
 const readOutcomes = text => ({ verdict: null, ...JSON.parse(text) });
 
-/** The sentence on top: in plain words how many states are as the condition of the test says. */
+/** The sentence on top. */
 function observationSentence({ states, observation, depth }, test) {
   const where = depth === 32 ? 'under TSO' : depth === 0 ? 'under sequential consistency' : `with store buffers of depth ${depth}`;
   if (observation === null) return `${states.length === 1 ? 'One outcome' : `${states.length} outcomes`} ${where}.`;
@@ -20,7 +20,7 @@ function outcomesInTerms({ observation, verdict, depth }, sequential) {
   return [inTerms(`Observation: ${word} (true in ${yes}, false in ${no}).${verdictWords(verdict)}${other}${depth === 32 ? ' A store buffer has room for 32 stores here, whatever yours has.' : ''}`)];
 }
 
-/** How many of the states are as the condition says. The sentence begins with the verdict on the condition. */
+/** The verdict on the condition, and how many states are as it says. */
 function countSentence(all, yes, where, test) {
   const { proposition } = readTest(test), wanted = proposition && wantedWords(proposition), said = wanted && !isLongEnd(wanted) ? wantedSentence(wanted) : 'what the condition says';
   const quantifier = quantifierOf(test), isForall = quantifier === 'forall', few = isForall && yes === all && all > 1 ? `all ${all}` : `${isForall && 0 < yes && yes < all ? 'only ' : ''}${yes || 'none'} of ${all}`;
@@ -28,7 +28,7 @@ function countSentence(all, yes, where, test) {
   return `${quantifier === 'exists' ? (yes > 0 ? 'Yes' : 'No') : claimWords(yes === (isForall ? all : 0))}: ${count}`;
 }
 
-/** Of a search that met its limit: the states that it had met, and a verdict where one decides it. An older module tells none. */
+/** Of a search that met its limit what it had met. An older module tells nothing. */
 function readMet(text) {
   const { met = [], verdict = null, unfinished } = JSON.parse(text);
   return { states: met, verdict, unfinished };
@@ -41,7 +41,7 @@ function metSentence({ states, verdict, unfinished }, isStopped) {
   return `${met}; there may be others.${decidedWords(states)}${verdictWords(verdict)}`;
 }
 
-/** That outcomes that were met leave the condition open; empty where they don't, or that isn't told. */
+/** That what was met leaves the condition open, where it does. */
 function decidedWords(states) {
   const quantifier = quantifierOf(byId('test').value), isForall = quantifier === 'forall';
   return quantifier === null || states.some(({ holds }) => holds !== isForall) ? '' : ` ${isForall ? 'All of them meet' : 'None of them meets'} the condition, which alone decides nothing.`;
@@ -49,7 +49,7 @@ function decidedWords(states) {
 
 const valuesText = values => Object.entries(values).map(([name, word]) => `${name}=${word}`).join(' ');
 
-/** What stands beside the states of TSO: how many sequential consistency has, and which are new. */
+/** How many outcomes sequential consistency has, and how many are new under TSO. */
 function besideSentence(outcomes, sequential) {
   const isNew = newStates(outcomes, sequential), count = isNew.filter(Boolean).length;
   const none = outcomes.observation === null ? 'The test has no condition. ' : '';
@@ -65,7 +65,7 @@ function newStates({ states }, sequential) {
 
 const MOST_RUN = 100; // states for which easy choices are sought
 
-/** Of each state whether the condition's proposition is true of it, as the answer tells; null where it doesn't. */
+/** Of each state whether the proposition is true of it; null where the answer doesn't tell. */
 const truthsOf = ({ observation, states }) => (observation !== null && states.every(({ holds }) => typeof holds === 'boolean') ? states.map(({ holds }) => holds) : null);
 
 const LONG_CHOICES = 80; // letters, from which on choices are folded
@@ -88,11 +88,10 @@ function waysTo({ states, depth }, sequential, sought) {
   }) ?? choices);
 }
 
-/** The column of the condition: its head, and its words for a state that is sought (of a claim: that breaks it) and for others. */
+/** The column of the condition: its head, and its words for a state that is sought (or breaks a claim) and for others. */
 const columnOf = quantifier => (quantifier === 'exists' ? ['Condition', '✓ true', 'false'] : ['Claim', '✗ breaks it', 'keeps it']);
 
-/** A row for each state; its button has the choices, which `loadChoices` takes. Beside them, where it is known, whether SC has it
- * too, and what the condition says of it. */
+/** A row for each state; its button has the choices for `loadChoices`. */
 function outcomesTable(outcomes, sequential, truths) {
   const { states, depth } = outcomes, names = Object.keys(states[0].values), isNew = sequential && newStates(outcomes, sequential);
   const quantifier = quantifierOf(inputOf('outcomes')), [condition, yes, no] = columnOf(quantifier), sought = truths?.map(truth => truth === (quantifier !== 'forall'));
@@ -108,12 +107,12 @@ function outcomesTable(outcomes, sequential, truths) {
   return sheet;
 }
 
-/** The row of what the condition asks for, where no state is so and the condition names each column: struck through, below. */
+/** The row of what the condition asks for, where no state is so: struck through, below. */
 function neverRow(names, columns, truths) {
   const { proposition } = readTest(inputOf('outcomes')), wanted = truths?.every(truth => !truth) && proposition !== null ? wantedWords(proposition) : null;
   const words = new Map(wanted?.map(({ core, register, location, word }) => [location ?? `${core}:${register}`, word]));
-  if (wanted === null || !names.every(name => words.has(name)) || words.size !== names.length) return [];
-  const cells = names.map(name => html('td', { class: 'number', 'data-name': name }, html('s', {}, String(words.get(name)))));
+  if (wanted === null || names.filter(name => words.has(name)).length !== words.size) return [];
+  const cells = names.map(name => html('td', { class: 'number', 'data-name': name }, words.has(name) ? html('s', {}, String(words.get(name))) : 'any'));
   const never = html('td', { colspan: columns - names.length, class: 'prose' }, html('strong', {}, 'never'), ', in no run');
   return [html('tfoot', {}, html('tr', { class: 'never' }, ...cells, never))];
 }

@@ -1,21 +1,23 @@
 'use strict';
 
-// What the page has packed: the module, texts and its own parts. They are packed by gzip, and stand as texts in base 85.
+// What the page has packed: the module, texts and its own parts. They are packed by gzip, and stand as texts in base 91.
 
-/** The letters by their values. None begins an element of a page, or ends a text. */
-const LETTERS = '0123456789ABCDEFGHIJKLMNOPQRSTUVWXYZabcdefghijklmnopqrstuvwxyz!#$%&()*+-;,=>?@^_`{|}~';
+/** The letters by their values: all that can be printed but what ends a text or begins an element of a page. */
+const LETTERS = Array.from({ length: 95 }, (_, at) => String.fromCharCode(at + 32)).filter(letter => !'"\'<\\'.includes(letter));
+const BITS = { pair: 13, lone: 6 };
 
-/** The bytes of a text: four of five letters. What lacks of the last five is as if it were the last letter. */
+/** The bytes of a text: each two letters are 13 bits, and one that is left is 6. */
 function bytesIn(text) {
-  const values = new Uint8Array(128), words = new DataView(new ArrayBuffer(Math.ceil(text.length / 5) * 4));
-  [...LETTERS].forEach((letter, value) => { values[letter.charCodeAt(0)] = value; });
-  const valueAt = at => (at < text.length ? values[text.charCodeAt(at)] : LETTERS.length - 1);
-  for (let at = 0; at < text.length; at += 5) {
-    let word = 0;
-    for (let next = at; next < at + 5; next++) word = word * LETTERS.length + valueAt(next);
-    words.setUint32(at / 5 * 4, word);
+  const values = new Uint8Array(128), { length } = text, data = new Uint8Array(BITS.pair * (length >> 1) + BITS.lone * (length % 2) >> 3);
+  LETTERS.forEach((letter, value) => { values[letter.charCodeAt(0)] = value; });
+  let word = 0, held = 0, next = 0;
+  for (let at = 0; at < length; at += 2) {
+    const first = values[text.charCodeAt(at)], isPair = at + 1 < length, width = isPair ? BITS.pair : BITS.lone;
+    word = word << width | (isPair ? LETTERS.length * first + values[text.charCodeAt(at + 1)] : first);
+    for (held += width; held >= 8; held -= 8) data[next++] = word >> held - 8;
+    word &= (1 << held) - 1;
   }
-  return new Uint8Array(words.buffer, 0, Math.floor(text.length * 4 / 5));
+  return data;
 }
 
 /** The bytes that were packed. */

@@ -62,7 +62,7 @@ function takeFromLibrary(file) {
   loadText(file);
   if (bench.answer?.status === Tso.STATUS.refused) return;
   if (Object.hasOwn(LIMIT_OF, command) && currentCommand() === 'run' && valueOf('words') === 1) {
-    working.asker = byId('test');
+    byId('test-part').open = byId('about').open = false;
     ask(command, { isAgain: true });
     return;
   }
@@ -138,7 +138,7 @@ const canAsk = () => bench.tso !== null && lesson.told === null && !isUnanswered
 document.addEventListener('keydown', event => {
   if (event.ctrlKey && event.key === 'Enter' && canAsk()) ask(askedNext());
   const isForOthers = event.target.matches('textarea, select, input:not([type=checkbox])') || event.ctrlKey || event.altKey || event.metaKey || (event.shiftKey && !'+?'.includes(event.key));
-  if (!isForOthers && ASK_KEYS[event.key] && canAsk() && byId('letter-keys').checked) return ask(ASK_KEYS[event.key]);
+  if (!isForOthers && ASK_KEYS[event.key] && canAsk() && byId('letter-keys').checked) return ask(ASK_KEYS[event.key], { goesThere: true });
   if (!isForOthers && event.key === 'e' && canEdit()) return editTest(event);
   if (!isForOthers && event.key === '?' && !isLecture() && byId('letter-keys').checked) return toggleKeys();
   if (!isForOthers && stepsArrows(event)) return event.preventDefault();
@@ -212,7 +212,10 @@ byId('search').addEventListener('input', showLibrary);
 byId('comparison').addEventListener('toggle', () => bench.tso && compareNow());
 for (const scrolled of [window, byId('frame')]) scrolled.addEventListener('scroll', () => (shown.run || drive.isOn) && placeNames(), { passive: true });
 byId('test-part').addEventListener('toggle', placeAll);
+let resized = 0; // the timer of what is laid out once a window's size is settled
 window.addEventListener('resize', () => {
+  clearTimeout(resized);
+  resized = setTimeout(fitReason, 200);
   placeAll();
   if ((shown.run || drive.isOn) && !matchMedia('print').matches) redraw();
 });

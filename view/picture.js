@@ -101,6 +101,7 @@ function drawWait(run, layout, store) {
   const parts = [svg('title', {}, sentenceOf(run, store)), svg('path', { class: 'leaving', d: way })];
   if (earliest < latest) parts.push(bar('possible', top(earliest) + head, top(latest)));
   if (latest < store.index) parts.push(bar('certain', top(latest) + (earliest < latest ? 0 : head), top(store.index)));
+  else if (earliest === latest) parts.push(bar('certain', top(latest) + 2, top(latest) + 16)); // it came and left between the same rows
   return svg('g', { class: 'wait', 'data-earliest': earliest, 'data-latest': latest, 'data-seen': store.index }, ...parts);
 }
 

@@ -158,7 +158,7 @@ function showFromBehind() {
 const listButton = (attributes, text, isOff = false) => html('button', { type: 'button', ...attributes, ...(isOff ? { disabled: '' } : {}) }, text);
 
 function whereInList() {
-  const { list } = taught, { at } = playlist, place = `${at + 1} of ${list.length}`, all = `${list.length} ${list.length === 1 ? 'entry' : 'entries'}`;
+  const { list } = taught, { at } = playlist, place = `${at + 1} of ${list.length}`, all = manyEntries(list);
   if (at < 0) return all;
   if (isOfEntry()) return `${place}${isToUpdate() ? ', changed' : ''}: ${list[at].name}`;
   return isOfEntry(false) ? `${place}: ${plainName(list[at])}, ${currentCommand()}` : `Not in the lecture of ${all}`;
@@ -187,9 +187,11 @@ function nameInFoot(entry) {
 }
 
 function drawFoot() {
-  const entries = toGoThrough(), way = (at, text) => (entries[at] ? listButton({ 'data-listed': at, class: 'quiet' }, text(nameInFoot(entries[at]))) : html('i', {}));
+  const entries = toGoThrough(), next = entries[placeNow() + 1], isNamed = next && onward()?.[0] === saidOfNext(next), { length } = taught.list;
+  const way = (at, before, after, name = entries[at] && nameInFoot(entries[at])) => (!name ? html('i', {}) : html('button', { type: 'button', 'data-listed': at, class: 'quiet' }, before, html('span', {}, name), after));
   playlist.where = footSaid();
-  byId('list-bar').replaceChildren(way(placeBefore(), name => `◀ ${name}`), listButton({ 'data-onward': '', class: 'quiet' }, playlist.where, !onward()), way(placeNow() + 1, name => `${name} ▶`));
+  byId('list-bar').replaceChildren(way(placeBefore(), '◀ ', ''), listButton({ 'data-onward': '', class: 'quiet' }, playlist.where, !onward()), way(placeNow() + 1, '', ' ▶', isNamed ? 'Next' : undefined));
+  setAll(byId('asked-line'), { 'data-place': length > 1 && isOfEntry(false) ? `${playlist.at + 1} of ${length}` : '' });
 }
 
 function drawList() {
@@ -205,11 +207,20 @@ function drawOfList() {
   sayListed('');
   const { list } = taught;
   byId('list-part').hidden = list.length === 0;
-  putText(byId('list-said'), `Lecture: ${list.map((each, at) => `${at + 1} ${shortName(each)}`).join(' · ')}`);
+  sayList();
   document.querySelectorAll('[data-lecture]').forEach(nameLecture);
   byId('save-exercises').hidden = list.length < 2;
   drawBar();
   followShown();
+}
+
+const manyEntries = ({ length }) => `${length} ${length === 1 ? 'entry' : 'entries'}`;
+
+/** Over the list what is in it, below it whether it is saved. */
+function sayList() {
+  const { list } = taught;
+  putText(byId('list-said'), `Lecture: ${byId('list-part').open ? manyEntries(list) : list.map((each, at) => `${at + 1} ${shortName(each)}`).join(' · ')}`);
+  putText(byId('list-kept'), list === playlist.saved ? 'Saved. After a change save it again:' : 'Closing this tab loses the lecture:');
 }
 
 /** Puts a field in the place of an entry's name until it is left; the other buttons stay, for who presses one then. */
@@ -230,6 +241,7 @@ function renameListed(at) {
   field.addEventListener('keydown', event => {
     if (!['Enter', 'Escape'].includes(event.key)) return;
     event.stopPropagation();
+    event.preventDefault(); // so that the same key doesn't press what gets the focus
     if (event.key === 'Escape') field.value = old;
     field.blur();
     item.firstElementChild.focus();
@@ -241,6 +253,7 @@ function foldList() {
   byId('list-part').open = false;
 }
 
+byId('list-part').addEventListener('toggle', sayList);
 document.addEventListener('click', ({ target }) => {
   const { listed, unlisted, raised, renamed } = target.dataset ?? {};
   if (listed !== undefined) openListed(Number(listed));

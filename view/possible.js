@@ -9,18 +9,22 @@ const ASK_AFTER = 250; // milliseconds without another test
  * whether the answer is still to come; and the test of which a sheet said that it can't be (`refuted`), and that for which why found a run (`found`). */
 const possible = { test: null, can: null, isAsked: false, timer: null, task: null, refuted: null, found: null };
 
+/** Whether it stands in a list before an answer, which it must not give away. */
+const isBeforeAnswer = () => isOfEntry() && taught.list.slice(playlist.at + 1).some(entry => hasShown(entry, 'why') || hasShown(entry, 'outcomes'));
+
 /** Whether an answer said that what the test that is driven asks for can't be; an exercise that isn't answered keeps it to itself. */
-const isRefuted = () => possible.refuted === drive.test && !isUnanswered();
+const isRefuted = () => possible.refuted === drive.test && !isUnanswered() && !isBeforeAnswer();
 
 const canBe = () => (possible.test === drive.test ? possible.can : null);
 
 /** Asks soon about the test that is driven, where nothing is known of it yet. */
 function askPossibleSoon() {
   if (possible.test === drive.test || !document.querySelector('#commands [value=why]')) return;
+  const isFirst = drive.test === partsOf(EXAMPLES[FIRST_TEXT]).test; // which can be, as a row of the tests asks: so the page opens with its task
   possible.task?.stop();
-  Object.assign(possible, { test: drive.test, can: null, isAsked: true, task: null });
+  Object.assign(possible, { test: drive.test, can: isFirst || null, isAsked: !isFirst, task: null });
   clearTimeout(possible.timer);
-  possible.timer = setTimeout(askPossible, ASK_AFTER);
+  if (!isFirst) possible.timer = setTimeout(askPossible, ASK_AFTER);
 }
 
 async function askPossible() {

@@ -48,10 +48,16 @@ function bareWords(text) {
   return `P${core}'s ${locked}${said}`;
 }
 
-/** The same, with its code name where another one that the sheet tells of has these words too. */
+/** An instruction without registers, of a locked one its location. */
+const formOfCode = code => code.replace(/^(LOCK|XCHG).*(\[\w+\]).*/i, '$2').replace(/\b[A-Z]{3}\b(?!\])/gi, '');
+
+/** Whether an event's core does the same in two places. */
+const isTwice = ({ core, place }) => sheet.programs[core].map(formOfCode).filter((form, _, all) => form === all[place]).length > 1;
+
+/** The same, with its code name where another one of its program or of the sheet has these words too. */
 function eventWords(text) {
   sheet.events ??= [...new Set(JSON.stringify(sheet.told).match(new RegExp(EVENT_FORM, 'g')))].map(each => [nameOfEvent(each), bareWords(each)]);
-  const words = bareWords(text), isOne = sheet.events.every(([name, other]) => other !== words || name === nameOfEvent(text));
+  const words = bareWords(text), isOne = !isTwice(eventOf(text)) && sheet.events.every(([name, other]) => other !== words || name === nameOfEvent(text));
   return isOne ? words : `${words} (${text.split(' ')[0]})`;
 }
 
@@ -216,7 +222,7 @@ const NO_STEP = ({ edge, from, to }) => from[1] === to[1] && (['rf', 'co', 'fr']
 /** A cycle with as many as can be of the loads at the places that are `wanted`, a shortest one of these (`isShort`: a shortest one of all, with any); null
  * where none has any. It comes to each core once, first to the one with the least number. */
 function cycleThrough(wanted, leaving, isShort) {
-  const isAsked = name => Number(/R$/.test(name) && wanted.includes(name.split(' ')[0])), coreOfName = name => Number(name[1]);
+  const isAsked = name => Number(isLoad(name) && isNamed(name, wanted)), coreOfName = name => Number(name[1]);
   const rank = ({ asked, edges }) => (isShort ? asked - FAR * edges.length : FAR * asked - edges.length), isBetter = (one, other) => other === null || rank(one) > rank(other);
   let best = null;
   for (const start of leaving.keys()) {
@@ -241,15 +247,18 @@ function cycleThrough(wanted, leaving, isShort) {
   return best?.edges ?? null;
 }
 
-/** A cycle of an execution's edges and program order, or an empty one: with what is `wanted`, as much as can be, else a shortest one. It begins
- * with an order that TSO doesn't keep, that of a store and one of the `loads` that passed it. */
+const isLoad = text => nameOfEvent(text).endsWith('R');
+const isNamed = (text, wanted) => wanted.includes(text.split(' ')[0]);
+
+/** A cycle of an execution's edges and program order, or an empty one: of what is `wanted` alone (loads, and orders of writes to a last one), else with as much of it
+ * as can be, else a shortest one. It begins with an order that TSO doesn't keep, that of a store and one of the `loads` that passed it. */
 function forbiddenCycle(edges, programs, loads, wanted) {
-  const stepOf = edge => ({ edge, from: nameOfEvent(edge.from), to: nameOfEvent(edge.to) }), leaving = new Map();
-  const steps = [...edges, ...edgesOfPrograms(edges, programs)].map(stepOf);
-  for (const step of steps) leaving.set(step.from, [...(leaving.get(step.from) ?? []), step]);
+  const stepOf = edge => ({ edge, from: nameOfEvent(edge.from), to: nameOfEvent(edge.to) }), steps = [...edges, ...edgesOfPrograms(edges, programs)].map(stepOf);
+  const leavingOf = some => new Map(some.map(({ from }) => [from, some.filter(step => step.from === from)])), leaving = leavingOf(steps);
   const shortest = () => [...leaving.keys()].map(event => wayBack(event, leaving)).filter(way => way !== null).sort((one, other) => one.length - other.length)[0];
-  const far = new Map([...leaving].map(([name, own]) => [name, [...own, ...own.flatMap(({ edge }) => laterEdges(edge, edges)).map(stepOf)]]));
-  const cycle = (edges.length > MANY_EDGES && cycleThrough(wanted, far, true)) || cycleThrough(wanted, far) || (shortest() ?? []);
+  const far = [...steps, ...steps.flatMap(({ edge }) => laterEdges(edge, edges)).map(stepOf)], isMany = edges.length > MANY_EDGES;
+  const isTold = ({ edge, from, to }) => [from, to].every(name => !isLoad(name) || isNamed(name, wanted)) && (edge.relation !== 'co' || isNamed(to, wanted));
+  const cycle = cycleThrough(wanted, leavingOf(far.filter(isTold)), isMany) || cycleThrough(wanted, leavingOf(far), isMany) || (shortest() ?? []);
   const isSame = (entry, text) => nameOfEvent(entry.text) === nameOfEvent(text);
   const isPassed = ({ from, to }) => loads.some(load => isSame(load, to) && load.passed.some(store => isSame(store, from)));
   const unkept = cycle.filter(({ relation }) => relation === 'unkept');

@@ -23,7 +23,7 @@ const ANSWERS_OF = {
 };
 /** What the button says that begins a long command. */
 const BEGINS = { outcomes: 'Find all outcomes', sweep: 'Run the seeds', counts: 'Count the runs', why: 'Say why' };
-/** The settings by the names of the page: `searched` is the depth of a search, whose default is another than that of a run. */
+/** The settings by the page's names: `searched` is the depth of a search, with a default of its own. */
 const SET_AT_FIRST = { ...Tso.DEFAULTS, searched: 32 };
 const SET_NAMES = ['protocol', 'bus', 'depth', 'sets', 'ways', 'words', 'from', 'seeds', 'length', 'searched', 'states', 'model', 'cases'];
 
@@ -43,7 +43,7 @@ function isSet(name) {
 
 const valueOf = name => (CHOSEN.includes(name) ? settingOf(name).value : Number(settingOf(name).value));
 
-/** The options that the module is asked with, or a sentence where a field's number is outside its limits. */
+/** The module's options, or a sentence where a number is outside its limits. */
 function readSettings(command) {
   const wrong = SETTINGS[command].find(name => !isSet(name));
   if (wrong) return { wrong: `${labelText(wrong)}: this has to be a whole number from ${settingOf(wrong).min} to ${settingOf(wrong).max}.` };
@@ -105,14 +105,14 @@ function putCommand(name) {
   showSettings(commandOf(name));
 }
 
-/** The one line that stands for the test while it is folded: its name; and where another command is chosen than run, that with its machine. */
+/** The line that stands for the folded test: its name; where another command is chosen than run, that with its machine. */
 function showTestLine(command) {
   const { options = Tso.DEFAULTS } = readSettings(command);
   const on = !SETTINGS[command].includes('bus') ? '' : showsCaches([options]) ? machineTitle(options) : plainMachineName(options);
   putText(byId('test-line'), testName() + (isLecture() || command === 'run' ? '' : `: ${[command, on].filter(Boolean).join(', ')}`));
 }
 
-/** The words of the command line that asks the same. The program reads all instructions only where it is told. */
+/** The words of the command line that asks the same. */
 function commandWords(command) {
   const { options = { command } } = readSettings(command);
   const changed = Object.entries(options).filter(([name, value]) => {
@@ -127,6 +127,7 @@ function commandWords(command) {
 /** The whole line for a shell, with the file that *Save the input* makes. */
 function commandLine(command) {
   if (command === 'tables') return commandWords(command);
-  const file = inputName(command);
-  return `${commandWords(command)} < ${/^[\w.+-]+$/.test(file) ? file : `'${file.replaceAll('\'', '\'\\\'\'')}'`}`;
+  const file = inputName(command), { places } = command === 'outcomes' ? withPlaces(inputOf(command)) : {};
+  const note = places?.length > 0 ? ` # with ${listed(places)} named in the condition` : '';
+  return `${commandWords(command)} < ${/^[\w.+-]+$/.test(file) ? file : `'${file.replaceAll('\'', '\'\\\'\'')}'`}${note}`;
 }

@@ -63,6 +63,7 @@ async function saveWhole(name, makePage, more) {
 function savePage() {
   const tests = taught.list.length;
   playlist.saved = taught.list;
+  sayList();
   for (const place of document.querySelectorAll('.listed')) putText(place, place.textContent.replace(UNSAVED, ''));
   return saveWhole(tests > 1 ? listFile('lecture') : fileName(pictureName(), '.html'), () => wholePage(addressNow()));
 }

@@ -18,7 +18,7 @@ const FEW_ROWS = 50; // that a long table shows at first
 const MOST_NAMED = 4; // registers with their names in C
 const FEW_COLUMNS = 6; // places in a table that has the programs beside it
 
-/** Shows the rows that the sheet's filter finds, of many the first ones, and says how many these are. */
+/** Shows the rows that the filter finds, of many the first ones. */
 function filterStates(sheet) {
   const [filter, alone] = sheet.querySelectorAll('.filter, .alone'), more = sheet.querySelector('.more-rows');
   const table = sheet.querySelector('table'), rows = [...table.tBodies[0].rows];
@@ -50,10 +50,29 @@ function sortBy(title) {
 
 const MOST_TRIED = 24; // states whose choices are tried in one's own store buffers
 
-/** That a line of locations, as herd's tests have it, adds no column. */
-const placesNote = () => (/^\s*locations\b/m.test(byId('test').value) ? [html('p', { class: 'small faint' }, 'The line “locations” adds no column: name a place in the condition to see it.')] : []);
+const LOCATIONS = /^([^]*\n[ \t]*locations\s*\[([\w:;\s]*)\]\s*(?:~\s*exists|exists|forall)\b)([^{}|"*]*)$/;
 
-/** Says beforehand that a run of the table has other store buffers, where one has no room in one's own. */
+/** What outcomes are asked of: the condition names the places of herd's line of locations too, behind `false`, so that it says the same. The
+ * test as written, and no places, where that can't be read for certain. */
+function withPlaces(test) {
+  const [, before, list = '', asks = ''] = LOCATIONS.exec(test) ?? [], named = asks.match(/[\w:]+/g);
+  const places = [...new Set(list.split(/[;\s]+/))].filter(name => name && !named.includes(name));
+  const input = `${before} ((${asks}) \\/ false${places.map(name => ` /\\ ${name}=0`).join('')})\n`;
+  if (before === undefined || asked({ command: 'run' }, input).status === Tso.STATUS.refused) return { input: test, places: null };
+  return { input: places.length > 0 ? input : test, places };
+}
+
+const searchedInput = command => (command === 'outcomes' ? withPlaces(inputOf(command)).input : inputOf(command));
+
+/** What a line of locations adds. */
+function placesNote() {
+  const test = inputOf('outcomes'), { places } = withPlaces(test);
+  if (!/^\s*locations\b/m.test(test) || places?.length === 0) return [];
+  const said = places ? `By the line “locations”: asked with ${listed(places)} named in the condition too.` : 'The line “locations” adds no column: name a place in the condition to see it.';
+  return [html('p', { class: `small faint${places ? ' ways-said' : ''}` }, said)];
+}
+
+/** Says that a run of the table has other store buffers, where one has no room in one's own. */
 function depthNote({ states, depth }) {
   const { options } = readSettings('run');
   if (options === undefined || options.depth === depth) return [];
@@ -73,7 +92,7 @@ function statesSheet(outcomes, sequential, truths) {
   const table = outcomesTable(outcomes, sequential, truths);
   const [first = '0:EAX'] = Object.keys(outcomes.states[0].values), buttons = table.querySelectorAll('.goes');
   const isOther = outcomes.states.some(({ choices }, at) => choices !== buttons[at].dataset.choices);
-  const ways = isOther ? [html('p', { class: 'small faint ways-said' }, 'The table has choices that are easy to follow; the answer as text has those that the search met first.')] : [];
+  const ways = isOther ? [html('p', { class: 'ways-said', hidden: '' }, 'The table has choices that are easy to follow; the answer as text has those that the search met first.')] : [];
   table.querySelector('tbody').prepend(...table.querySelectorAll('.met')); // what is sought comes first
   for (const head of [...table.querySelectorAll('thead th')].slice(0, -1)) head.replaceChildren(html('button', { type: 'button', class: 'sorts' }, head.textContent));
   const { programs: told } = readTest(inputOf('outcomes')), { names = [], lines = [] } = inC(told) ?? {}, isFew = names.flatMap(Object.keys).length <= MOST_NAMED;
@@ -94,6 +113,7 @@ function statesSheet(outcomes, sequential, truths) {
   const isBroad = Object.keys(outcomes.states[0].values).length > FEW_COLUMNS || programs.childElementCount > MANY_CORES;
   const sheet = html('div', { class: isBroad ? 'states-sheet broad' : 'states-sheet' }, programs,
     html('div', { class: 'states-told' }, ...(outcomes.states.length > 1 ? [tools] : []), table, more), html('div', { class: 'states-notes' }, ...words, key, ...ways, ...depthNote(outcomes), ...placesNote()));
+  sheet.style.setProperty('--states', outcomes.states.length);
   if (outcomes.states.length > 1) filterStates(sheet);
   return [sheet];
 }

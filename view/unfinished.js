@@ -52,7 +52,7 @@ function unfinishedParts(command) {
 
 document.addEventListener('click', ({ target }) => {
   const { more, ask: command } = target.dataset ?? {};
-  if (command !== undefined) ask(command);
+  if (command !== undefined) ask(command, { goesThere: true });
   if (more === undefined) return;
   const [name, value] = more.split(' ');
   settingOf(name).value = value;

@@ -3,7 +3,7 @@
 // The sheet of `why`: what was asked, and why it can't be, or how it can.
 
 /** The sheet that is shown: the answer, the programs, and the cycle that is drawn. */
-const sheet = { told: null, programs: null, cycle: null };
+const sheet = { told: null, programs: null, cycle: null, answered: [], width: 0 }; // `answered`: of what it was made, in a window of such a width
 
 /** Whether a module answers `why`, tried on the first test. */
 function tellsWhy(tso) {
@@ -29,7 +29,7 @@ function readTest(input) {
   return { programs, proposition, start };
 }
 
-const MOST_PASSES = 4; // that are told of an execution
+const MOST_PASSES = 4; // that are told of an execution; of more half as many
 const FEW_PASSES = 3; // of a run that did a task
 
 const ORDINALS = ['first', 'second', 'third', 'fourth', 'fifth', 'sixth', 'seventh', 'eighth'];
@@ -48,18 +48,18 @@ function keyOfEdges(edges, words) {
 
 const READ_AS = { INC: 'ADD', DEC: 'SUB' };
 
-/** Which instructions of a test are read as others. */
+/** Which instructions of a test are read as others, or do nothing. */
 function readAsSaid(test) {
-  const found = new Set(test.match(/\b(?:LOCK +)?(?:INC|DEC) +(?:\[\w+\]|[ER]?(?:[A-D]X|[SD]I)\b)/gi));
-  return [...found].map(text => ` ${text} is read as ${text.replace(/INC|DEC/i, verb => READ_AS[verb.toUpperCase()])},$1.`).join('');
+  const found = new Set(test.match(/\b[LS]FENCE\b(?= *[|;])|\b(?:LOCK +)?(?:INC|DEC) +(?:\[\w+\]|[ER]?(?:[A-D]X|[SD]I)\b)/gi));
+  return [...found].map(text => ` ${text} ${/FENCE/i.test(text) ? 'has no effect here' : `is read as ${text.replace(/INC|DEC/i, verb => READ_AS[verb.toUpperCase()])},$1`}.`).join('');
 }
 
 /** Shows what `why --json` told of a test, and `beside` it of sequential consistency. */
 function showReason(answer, test, beside) {
-  const told = JSON.parse(answer.text), { programs, proposition } = readTest(test);
+  const told = JSON.parse(answer.text), { programs: read, proposition } = readTest(test), programs = asWritten(test, read);
   showAnswer(answer);
   foldReport(answer);
-  Object.assign(sheet, { told, programs, test, cycle: null, events: null });
+  Object.assign(sheet, { told, programs, test, cycle: null, events: null, answered: [answer, test, beside], width: innerWidth });
   const isTso = told.model === 'tso', can = told.answer !== 'never';
   if (!can && isTso) possible.refuted = test;
   if (can && isTso && told.asked?.truth === true) possible.found = test;
@@ -68,7 +68,7 @@ function showReason(answer, test, beside) {
   const early = told.asked === null ? {} : { 'data-early': '' }; // a lecture shows it with the last arrow
   const heading = answerTitle(title);
   setAll(heading, early);
-  const section = html('section', { class: 'reason', 'aria-label': 'Why' }, heading,
+  const section = html('section', { class: 'reason', 'aria-label': 'Why' }, heading, ...strayPart(test),
     html('p', { role: 'status' }, ...(isTso ? judgeThought(can) : []), verdictOf(plainAnswer(told, proposition, quantifierOf(test)), early)),
     ...termsPart(proposition && wantedWords(proposition)), ...enoughPart(told, test, proposition), ...said, ...drawn, ...countsOffer());
   byId('states').replaceChildren(section);
@@ -80,6 +80,14 @@ function showReason(answer, test, beside) {
   const isDrawn = section.querySelector('figure') !== null, terms = html('p', { class: 'terms' }, html('strong', {}, 'In litmus terms: '), reasonSentence(told, proposition));
   if (!isDrawn) section.querySelector('[role=status]').after(html('p', { class: 'small faint' }, codesSaid(section.textContent), readAsSaid(test)));
   section.append(sheetTools(isDrawn, run), html('details', { class: 'in-tables' }, html('summary', {}, 'More about this answer'), ...more, terms, html('p', { class: 'small faint' }, codesSaid(answer.text))));
+}
+
+/** Makes the sheet anew where the window's width is another: pictures are laid out for one. */
+function fitReason() {
+  if (sheet.width === innerWidth || !document.querySelector('.reason')) return;
+  const step = sheet.cycle?.shown;
+  showReason(...sheet.answered);
+  sheet.cycle?.show(step);
 }
 
 /** An answer's first sentence, with a sign before a yes and a no. */
@@ -162,19 +170,20 @@ function allowedParts(answered, programs, proposition, beside) {
   const isMany = few.length > 0 && edges.length > (cycle.length > 0 ? FEW_BESIDE : MANY_EDGES);
   const run = html('button', { type: 'button', 'data-choices': choices, 'data-depth': DEPTH_OF[model] }, 'Run it');
   const isOpen = edgesOfPrograms(executed, programs).some(({ relation, to }) => relation === 'unkept' && !loads.some(({ text }) => nameOfEvent(text) === nameOfEvent(to)));
+  const isOther = wanted.some(place => /,\[/.test(programs[place[1]]?.[place.slice(3)])) && cycle.some(({ to }) => isLoad(to) && !isNamed(to, wanted));
   const { said: passing, more } = passesPart(loads, own.said, cycle, { isToo, isMany, isOpen }), note = isCalm ? [html('p', {}, 'The answer as text has a run of its own.')] : [];
   return {
     said: sequentialPart(sequential, isCalm && loads.length === 0),
-    drawn: executionPart(programs, edges, isMany ? few : edges, cycle, passing),
+    drawn: executionPart(programs, edges, isMany ? few : edges, cycle, passing, isOther),
     run: [html('span', { class: 'of-run' }, run, ...choicesPart(choices))],
     more: [...more, html('div', { class: 'beside' }, ...executionTables(told.asked === null ? { ...told, values: { ...registersAtEnd(choices, programs, model), ...told.values } } : told)), ...note],
   };
 }
 
-/** An execution that is drawn, edge by edge: first its forbidden cycle, if it has one. What is told `beside` it stands under its legend. */
-function executionPart(programs, edges, few, cycle, beside) {
+/** An execution that is drawn, edge by edge: first its forbidden cycle, if it has one (`isOther`: by loads not asked for). What is told `beside` stands under its legend. */
+function executionPart(programs, edges, few, cycle, beside, isOther) {
   if (edges.length === 0) return [];
-  const [first] = cycle, end = first && `So this run needs store buffers: without them ${eventWords(first.from)} would be before itself. TSO doesn't keep the dashed arrow${cycle.filter(({ relation }) => relation === 'unkept').length > 1 ? 's' : ''}.`;
+  const [first] = cycle, end = first && `So this run needs store buffers${isOther ? ', by other loads than those asked for' : ''}: without them ${eventWords(first.from)} would be before itself. TSO doesn't keep the dashed arrow${cycle.filter(({ relation }) => relation === 'unkept').length > 1 ? 's' : ''}.`;
   const told = { end: end ?? '', name: 'The execution', closed: cycle.length, arrow: 'comes before, if there were no store buffers', beside };
   const panelOf = (shown, isPicked) => new CyclePanel(programs, shown, isPicked ? { ...told, end: '', closed: 0 } : told);
   return [drawExecution(programs, edges, few, panelOf, first ? 'a cycle that needs store buffers' : 'those at what is asked for')];
@@ -233,18 +242,18 @@ function passEdges(loads, executed, cycle) {
 /** What a load passed in sentences, with code names where its own words name another one too. */
 const passWords = load => passSentences(load).map(each => (eventWords(load.text).endsWith(')') ? each : each.replace(/ \(.*\)/, '')));
 
-/** What loads passed in the run that a sentence names so, and what keeps such an order. Of many those of the cycle, and the others with what is told in the fold. `isOpen`: others may pass. */
+/** What loads passed in the run that a sentence names so, and what keeps such an order. Of many those of the cycle, others in a fold. `isOpen`: others may pass. */
 function passesPart(loads, named, cycle, { isToo, isMany, isOpen }) {
   const passes = toldFirst(loads, cycle).flatMap(passWords), isOne = loads.length === 1;
   if (passes.length === 0) return { said: [], more: [] };
-  const title = isOne ? 'A load passes a store' : 'Loads pass stores', rest = passes.splice(isMany ? Math.max(1, loads.filter(load => isOfCycle(load, cycle)).length) : MOST_PASSES);
+  const title = isOne ? 'A load passes a store' : 'Loads pass stores', most = isMany ? Math.max(1, loads.filter(load => isOfCycle(load, cycle)).length) : MOST_PASSES;
+  const rest = passes.splice(passes.length > MOST_PASSES ? Math.min(most, MOST_PASSES / 2) : most);
   const others = `In another run that ends so, other loads may pass${isToo ? ', or none' : ''}.`;
-  const enough = isOne ? ' One load that passes its store is enough.' : '', cure = isToo ? '' : ` MFENCE or a locked instruction between the store and the load would keep their order.${isOpen ? ` ${others}` : ''}`;
-  const list = rest.length === 0 ? []
-    : [html('p', {}, `${rest.length} more of this run${isMany ? ', which the cycle doesn\'t have' : ''}:`), html('ul', {}, ...rest.map(each => html('li', {}, each)))];
+  const enough = isOne ? 'One load that passes its store is enough. ' : '', cure = isToo ? '' : `MFENCE or a locked instruction between the store and the load would keep their order.${isOpen ? ` ${others}` : ''}`;
+  const list = rest.length === 0 ? [] : [html('details', {}, html('summary', {}, `And ${rest.length} ${rest.length === 1 ? 'other' : 'others'}.`), html('ul', {}, ...rest.map(each => html('li', {}, each))))];
   return {
-    said: [html('p', { class: 'passing' }, html('strong', {}, `${title} in ${named}: `), passes.join(' ') + (rest.length > 0 ? ` And ${rest.length} ${rest.length === 1 ? 'other' : 'others'}.` : '') + enough + cure)],
-    more: [html('p', {}, isToo ? others : `A load that passes a store is the one change of a program's order that TSO allows.${isOpen ? '' : ` ${others}`}`), ...list],
+    said: [html(list.length > 0 ? 'div' : 'p', { class: 'passing' }, html('strong', {}, `${title} in ${named}: `), passes.join(' '), ...list, ` ${enough}${cure}`)],
+    more: [html('p', {}, isToo ? others : `A load that passes a store is the one change of a program's order that TSO allows.${isOpen ? '' : ` ${others}`}`)],
   };
 }
 

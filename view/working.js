@@ -2,7 +2,7 @@
 
 // Long work in sight: that it goes on, for how long, how far it came, and how one stops it.
 
-/** When the work began, what had the focus then, its clock, and how far it came: `progress` is what it told last and when, null before. */
+/** When the work began, what had the focus then, its clock, and what it told last, null before. */
 const working = { since: 0, asker: null, clock: null, progress: null };
 
 const secondsWorked = () => Math.floor((Date.now() - working.since) / 1000);
@@ -31,12 +31,14 @@ function beginWorking() {
   working.clock = setInterval(showWorking, 500);
   byId('working').hidden = byId('stop').hidden = byId('busy').hidden = false;
   byId('stopped').hidden = true;
+  byId('states').className = 'old';
   showWorking();
 }
 
 function endWorking() {
   clearInterval(working.clock);
   byId('working').hidden = byId('stop').hidden = byId('busy').hidden = byId('stopped').hidden = true;
+  byId('states').className = '';
 }
 
 /** Notes how far the work came. */
@@ -74,7 +76,7 @@ function showMetBefore() {
   focusAnswer();
 }
 
-/** Ends the work before it has an answer, with the focus at what one can do then. A machine in sight is driven on. */
+/** Ends the work before its answer, with the focus at what one can do then. */
 function stopWork() {
   if (bench.task === null) return;
   stopTask();

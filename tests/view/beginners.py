@@ -36,7 +36,7 @@ def ways_row(bench):
     faults = differs("the parts", parts, ["What does a core see of its own stores?", "Is one fence enough?"])
     bench.window.click("#lessons [data-lesson=fences]:not([data-step='0'])")
     faults += differs("begun", bench.value("[lesson.told.name, byId('lesson-title').textContent, byId('lesson-place').textContent.split(':')[0]]"),
-                      ["fences", "Is one fence enough?", "Part 2 of 2, step 1 of 10"])
+                      ["fences", "Is one fence enough?", "Part 2 of 2, step 1 of 12"])
     bench.value("enterStep(lesson.told.steps.length - 1)")
     faults += [] if "Both zeros: without fences yes, with one fence yes, with two no." in bench.text("#lesson-said") else ["it says " + bench.text("#lesson-said")]
     bench.window.click("#lesson-also")
@@ -112,6 +112,14 @@ def in_c_row(bench):
     return faults + differs("without a form", bench.value(told), [[None] * 3] * 2) + safety(bench)
 
 
+# Of each word of the machine and of the order that is explained: what its explanation covers of buttons and buffers.
+COVERING = """[byId('order-title'), ...document.querySelectorAll('#machines [data-means]')].filter(word => word.checkVisibility()).flatMap(word => {
+  word.focus();
+  const said = byId('meaning').getBoundingClientRect(), isIn = ({ left, right, top, bottom }) => left < said.right && right > said.left && top < said.bottom && bottom > said.top;
+  return [...document.querySelectorAll('main button, .buffer')].filter(part => part.checkVisibility() && isIn(part.getBoundingClientRect())).map(part => `${word.textContent}: ${part.textContent}`);
+})"""
+
+
 def word_stops_row(bench):
     """Beyond its buttons a core has one Tab stop, memory one, and the order one; down and up lead to each word there, and each tells its meaning."""
     stops = "[...document.querySelectorAll(%r)].map(each => each.querySelectorAll('[data-means][tabindex=\"0\"]').length)"
@@ -125,7 +133,10 @@ def word_stops_row(bench):
     bench.value("loadText('store-buffering.litmus'); goTo(3); byId('order-title').focus()")
     told = [bench.value(pressed % "ArrowDown")[0] for _ in range(2)]
     faults += differs("in the order", told, ["/\\", "passed"])
-    return faults + differs("the count of steps is the same", bench.value("drive.count"), 3) + safety(bench)
+    faults += differs("the count of steps is the same", bench.value("drive.count"), 3)
+    bench.open_fresh(width=1280)
+    bench.value("['0s', '1s', '0s'].forEach(word => makeChoice(word))")
+    return faults + differs("an explanation covers no button and no buffer", bench.value(COVERING), []) + safety(bench)
 
 
 CACHES = "[...document.querySelectorAll('.core')].map(core => [...core.querySelectorAll('.cache tr')].map(row => [row.textContent, row.className, row.querySelector('.changed') !== null]))"
@@ -140,12 +151,42 @@ def left_row(bench):
     for count, wanted in ((2, [["x, yI→Mx=1 y=0", "", True], ["no lines", "", False]]), (4, [["x, yM→I", "gone", True], ["x, yI→Mx=1 y=1", "", True]]), (5, [["x, yI", "gone", False], ["x, yMx=1 y=1", "", False]])):
         faults += differs("caches after %d" % count, bench.value("goTo(%d), %s" % (count, CACHES)), [[row] for row in wanted])
     said = "[...[...document.querySelectorAll('.core')][0].querySelectorAll('.buffer li')].map(each => each.textContent).concat(document.querySelector(\"[data-choice='0s']\").ariaLabel)"
-    faults += differs("with a store that waits", bench.value(said), ["x=2", "P0: no more instructions"])
+    faults += differs("with a store that waits", bench.value(said), ["x=2", "P0: at its end"])
     faults += differs("after it left", bench.value("goTo(6), " + said), ["left: x=2", "P0: finished"])
     bench.value("goTo(7); putBeside(JSON.stringify(ABREAST))")
     whose = bench.value("firstHistory().options.protocol.toUpperCase()")
     faults += differs("whose", bench.value("[...document.querySelectorAll('#left caption')].map(each => each.textContent)"), ["%s, %s" % (what, whose) for what in ("Registers", "Memory", "Cache accesses")])
     return faults + differs("of a core that uses none", bench.value("document.querySelector('#left tbody tr').textContent"), "EAX–1") + safety(bench)
+
+
+IN_C = "X86 c\n{}\n P0 | P1%s\n x=1 | y=1%s\n r0=y | %s=x%s\nexists (r0=0 /\\ %s=0)\n"
+TOLD = "[byId('plain').textContent, byId('test-band').dataset.line, byId('write-so').hidden]"
+
+
+def bare_row(bench):
+    """A register that a condition names without its core is that of the only core that has it, or an error; a row without ; is marked itself; a name that is no location
+    is said beside the test and before its answer, and the page's own first test has none."""
+    bench.open_fresh(width=1280)
+    bench.fill("test", IN_C % ("", "", "r1", "", "r1"))
+    faults = differs("the row of cores", bench.value(TOLD), ["Line 3 needs a ; at its end.", "3", False])
+    bench.fill("test", IN_C % (" ;", "", "r1", "", "r1"))
+    faults += differs("another row", bench.value(TOLD), ["Line 4 needs a ; at its end.", "4", False])
+    bench.window.click("#write-so")
+    faults += differs("written", bench.value("byId('test').value.split('\\n').slice(-2)[0]"), "exists (0:EAX=0 /\\ 1:EAX=0)")
+    bench.fill("test", IN_C % (" ;", " ;", "r0", " ;", "y"))
+    bench.window.click("#write-so")
+    faults += differs("of two cores", bench.value(TOLD), ["Line 6: r0 is no location of this test: write the register with its core, as 0:EAX.", "6", True])
+    bench.fill("test", "X86 q\n{ }\n P0 ;\n MOV [x],$1 ;\nexists (q=0 /\\ x=1)\n")
+    said = "q is no location of this test, so it stays 0."
+    faults += differs("beside the test", bench.text(".writing .noticed"), "Note, line 5: " + said)
+    for command, part in (("outcomes", ".states-sheet"), ("why", ".reason")):
+        bench.choose(command)
+        bench.value("begin(); true")
+        bench.wait("!bench.task && document.querySelector('%s')" % part)
+        faults += differs("before " + command, bench.value("document.querySelector('#states .answer-title').nextElementSibling.textContent"), said)
+    bench.open_fresh()
+    find_outcomes(bench)
+    return faults + differs("of the first test", bench.value("[!!document.querySelector('.stray'), document.querySelector('.noticed').textContent]"), [False, ""]) + safety(bench)
 
 
 def rows(page, _):
@@ -155,6 +196,7 @@ def rows(page, _):
         ("beginners, ways on", lambda: ways_row(bench)),
         ("beginners, what is held back", lambda: held_back_row(bench)),
         ("beginners, signs", lambda: signs_row(bench)),
+        ("beginners, bare names and rows that don't end", lambda: bare_row(bench)),
         ("beginners, settings and ways back", lambda: settings_row(bench)),
         ("beginners, C beside each test", lambda: in_c_row(bench)),
         ("beginners, words by arrows", lambda: word_stops_row(bench)),

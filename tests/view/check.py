@@ -23,7 +23,7 @@ apt-get install -y --no-install-recommends chromium poppler-utils
   the rows of machine.py, carried.py and looks.py; and so it does where it once went wrong: the rows of repairs.py; what is saved and kept: those of kept.py. Why something can't be, or how it
   can, is told, drawn and run as the program tells it: the rows of reasons.py.
 
-- What teaches: lessons, tasks, terms (teaching.py, lessons.py, beginners.py); the larger set of instructions (larger.py); work that is long, undo, branches and ways
+- What teaches: lessons, tasks, terms (teaching.py, lessons.py, beginners.py); the larger set of instructions (larger.py); tests of other programs (foreign.py); work that is long, undo, branches and ways
   back (working.py); a lecture, tables and forms (presenting.py); lists of tests (playlists.py) and a hall (hall.py); ways of edges that cross nothing, and what
   moves (drawn_edges.py); ways that share no stretch (ways.py); what WCAG 2.2 AA asks, as far as a script sees it (access.py); looks and layout (layout.py).
 - In Firefox, where Debian's firefox-esr is there, some of these rows.
@@ -49,6 +49,7 @@ import drawn_edges
 import driving
 import firefox
 import first
+import foreign
 import given_lines
 import hall
 import kept
@@ -132,7 +133,7 @@ def rows_of_reasons(page, room, folder):
 
 def rows_that_teach(page, folder):
     """The rows of what teaches; they ask for outcomes and for `why`, so they need a module that answers these."""
-    return [row for each in (teaching, larger, working, presenting, playlists, hall, drawn_edges, ways, access, layout, beginners) for row in each.rows(page, folder)]
+    return [row for each in (teaching, larger, foreign, working, presenting, playlists, hall, drawn_edges, ways, access, layout, beginners) for row in each.rows(page, folder)]
 
 
 class Page:

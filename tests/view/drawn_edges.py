@@ -102,7 +102,7 @@ exists (0:ECX=0 /\\ 1:ECX=1 /\\ 2:EBX=0 /\\ 3:EAX=2 /\\ x=1)
 OPENED = """(() => {
   const { cycle } = sheet, picture = cycle.picture.querySelector('svg'), box = cycle.picture.getBoundingClientRect();
   return { shown: cycle.shown, count: document.querySelector('.cycle .buttons span').textContent, faint: document.querySelectorAll('.cycle .later').length,
-    first: cycle.cycle[0].from, fits: document.querySelector('.drawn-part label:last-of-type input').checked, isWhole: box.height <= innerHeight,
+    first: cycle.cycle[0].from, fits: document.querySelector('.stepping label input').checked, isWhole: box.height <= innerHeight,
     letters: 13 * picture.getBoundingClientRect().width / picture.viewBox.baseVal.width };
 })()"""
 FAINT = """(() => {

@@ -56,6 +56,7 @@ DRAWN = """({
   entries: [...document.querySelectorAll('#frame [data-entry]')].map(each => Number(each.dataset.entry)).sort((a, b) => a - b),
   texts: [...document.querySelectorAll('#frame [data-entry]')].map(each => each.querySelector('title').textContent),
   bars: [...document.querySelectorAll('#frame .wait[data-seen]')].map(each => ['earliest', 'latest', 'seen'].map(name => Number(each.dataset[name]))).sort((a, b) => a[2] - b[2]),
+  bare: document.querySelectorAll('#frame .wait:not(:has(.certain))').length,
   open: [...document.querySelectorAll('#frame .wait[data-since]')].map(each => [each.dataset.name, Number(each.dataset.since)]).sort(),
   arrows: [...document.querySelectorAll('#frame path[data-from]')].map(each => [Number(each.dataset.from), Number(each.dataset.to)]).sort((a, b) => a[1] - b[1]),
 })"""
@@ -234,7 +235,7 @@ def faults_of_picture(bench, trace, count):
     order, bars, still = wanted_picture(trace, count)
     drawn = bench.value(DRAWN)
     faults = differs("entries after %d" % count, drawn["entries"], list(range(len(order))))
-    faults += differs("bars after %d" % count, drawn["bars"], bars) + differs("waiting after %d" % count, drawn["open"], still)
+    faults += differs("bars after %d" % count, drawn["bars"], bars) + differs("waiting after %d" % count, [drawn["open"], drawn["bare"]], [still, 0])
     return faults + differs("the order after %d" % count, bench.value("firstHistory().order.slice(0, %d).map(entry => entry.text)" % len(order)), order)
 
 

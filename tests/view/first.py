@@ -205,6 +205,13 @@ def marked_core_row(bench):
 BOX = "(name => { const { left, right, top, bottom } = document.querySelector(name).getBoundingClientRect(); return { left, right, top, bottom }; })"
 
 
+def task_at_once_row(bench):
+    """The page opens with the task of its first test in its words, and what it takes as known there is what `why` answers."""
+    bench.open_fresh()
+    known = "[possible.test === drive.test, possible.can, byId('task').matches('.asked'), JSON.parse(bench.tso.answer({ command: 'why', json: true }, possible.test).text).answer]"
+    return differs("known of the first test", bench.value(known), [True, True, False, "allowed"]) + safety(bench)
+
+
 def first_screen_row(bench):
     """At 1280 by 800 the machine, its memory and the two main buttons are in sight under the words of what this is, the order is as high as the machine,
     and what will stand there is said until something does."""
@@ -327,5 +334,5 @@ def rows(page, folder):
         ("what is folded at first", lambda: folded_row(bench, folder)),
         ("the core that keys act on", lambda: marked_core_row(bench)),
         ("large text", lambda: large_text_row(bench, folder)),
-        ("the first screen", lambda: first_screen_row(bench)), ("a buffer that is drawn", lambda: queue_row(bench)), ("folds of the bar", lambda: bar_row(bench)), ("stops in the bar", lambda: stops_row(bench)),
+        ("the first screen", lambda: first_screen_row(bench)), ("the task at once", lambda: task_at_once_row(bench)), ("a buffer that is drawn", lambda: queue_row(bench)), ("folds of the bar", lambda: bar_row(bench)), ("stops in the bar", lambda: stops_row(bench)),
     ]

@@ -102,6 +102,12 @@ def renamed_row(bench):
         named = bench.value("[taught.list[0].name, byId('list').children[0].firstElementChild.textContent, document.querySelector('#list [data-raised]').ariaLabel]")
         faults += differs("its name after %r" % written, named, [name, name, "Move %s up" % name])
     faults += differs("the focus", bench.value("document.activeElement.textContent"), "Dekker")
+    press(bench, "#list [data-renamed]")
+    bench.window.type("Lamport")
+    for kind in ("keyDown", "keyUp"):  # by a real key, which must not press what gets the focus
+        bench.window.call("Input.dispatchKeyEvent", type=kind, key="Enter", code="Enter", windowsVirtualKeyCode=13, **({"text": "\r"} if kind == "keyDown" else {}))
+    faults += differs("after Enter", bench.value("[byId('list-part').open, document.activeElement.textContent, taught.list[0].name]"), [True, "Lamport", "Lamport"])
+    bench.value("taught.list = taught.list.with(0, { ...taught.list[0], name: 'Dekker' })")
     faults += named_in_hall(bench)
     bench.value("loadText('MP.litmus')")
     bench.wait("document.querySelector('#list-bar span').textContent === 'Not in the lecture of 1 entry'")
@@ -152,6 +158,28 @@ def level_row(bench):
     return faults + safety(bench)
 
 
+WHOLE_RUNS = {"store-buffering-fenced.litmus": "0s 0d 0s 0s 1s 1d 1s 1s", "IRIW.litmus": "0s 0d 1s 1d 2s 2s 3s 3s", "3.SB.litmus": "0s 1s 2s 0s 1s 2s 0d 1d 2d"}
+
+
+def fitted_row(bench):
+    """Runs of two, three and four cores fit a lecture's window to their end, and one in which nothing passes is drawn larger; few outcomes fill it, and fit too."""
+    faults = []
+    for width, height in ((1920, 1080), (1280, 720), (1024, 768)):
+        bench.open_fresh()
+        bench.window.resize(width, height)
+        bench.value("putLecture(true)")
+        for name, words in WHOLE_RUNS.items():
+            bench.value("loadText('%s'); putChoices('%s'); answerNow(); goTo(drive.words.length)" % (name, words))
+            faults += differs("%s at %d" % (name, width), bench.value("document.documentElement.scrollHeight"), height)
+        zooms = bench.value("[%s].map(file => (loadText(file), Number(byId('run').style.getPropertyValue('--zoom'))))" % ", ".join("'%s'" % name for name in WHOLE_RUNS))
+        faults += [] if zooms[0] >= zooms[2] + (0.2 if width == 1920 else 0) else ["at %d drawn by %s" % (width, zooms)]
+        bench.value("loadText('store-buffering.litmus'), findOutcomes()")
+        bench.wait("!bench.task && document.querySelector('.states-sheet')")
+        faults += differs("outcomes at %d" % width, bench.value("document.documentElement.scrollHeight"), height)
+        bench.value("putLecture(false)")
+    return faults + safety(bench)
+
+
 def rows(page, _):
     bench = Driver(page)
     return [
@@ -161,6 +189,7 @@ def rows(page, _):
         ("buffers in a lecture of 1024 by 768", lambda: narrow_row(bench)),
         ("a name in a list", lambda: renamed_row(bench)),
         ("outcomes and their question", lambda: outcomes_asked_row(bench)),
+        ("a lecture fits its window", lambda: fitted_row(bench)),
         ("four protocols in sight", lambda: four_in_sight_row(bench)),
         ("a core's parts stay where they are", lambda: level_row(bench)),
     ]

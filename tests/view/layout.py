@@ -90,7 +90,7 @@ def large_row(bench):
     faults += differs("the places of the bar", set(tops), {0})
     names = "[arrowName(0), arrowName(25), arrowName(26), document.querySelectorAll('.cycle [data-letters] text')[1].textContent.split(' ')[0]]"
     faults += differs("the names", bench.value(names), ["a", "z", "aa", "b"])
-    press(bench, ".drawn-part label:last-of-type input")
+    press(bench, ".stepping label input")
     faults += differs("the whole picture", bench.value("document.querySelector('.cycle figure').offsetHeight <= innerHeight"), True)
     bench.window.resize(1280, 800)
     return faults + safety(bench)

@@ -138,7 +138,7 @@ def own_test_row(bench):
     bench.open_fresh(width=1280)
     bench.fill("test", OWN)
     bench.value("byId('test-part').open = false; makeChoice('0s'); true")
-    bench.value("beginLesson('store-buffering'); leaveLesson(); true")
+    bench.value("beginLesson('store-buffering', Infinity); putLesson({ isDone: true }); goOn(); leaveLesson(); true") # in the lesson after
     faults = differs("offered", bench.text("#to-first-test"), "Back to your own test")
     press(bench, "#to-first-test")
     faults += differs("one's own test", bench.value("[byId('test').value, drive.words.join(), byId('left-lesson').hidden]"), [OWN, "0s", True])
@@ -158,6 +158,13 @@ def keys_row(bench):
     faults = differs("the test", bench.value("[byId('test-part').open, document.activeElement.id]"), [True, "test"])
     bench.window.press("Escape")
     faults += differs("left", bench.value("document.activeElement.parentElement.id"), "test-part")
+    at_answer = "[document.activeElement.className, Math.round(byId('way-back').getBoundingClientRect().top) < innerHeight / 2, byId('test-part').open]"
+    for act in ("o", "w", "outcomes"): # from the test that is open a key leads to the answer, and so does a button below the test
+        pressed = "document.activeElement.dispatchEvent(new KeyboardEvent('keydown', { key: '%s', bubbles: true }))" if len(act) == 1 else "backToRun(); document.querySelector('#asks-here [data-ask=%s]').click()"
+        bench.value(pressed % act)
+        bench.wait("!bench.task && document.activeElement.matches('#states .answer-title')")
+        faults += differs(act, bench.value(at_answer), ["answer-title", True, True])
+    bench.value("backToRun()")
     bench.value("byId('test-part').open = false; byId('ask-why').click()")
     bench.wait("!bench.task && document.querySelector('.cycle')")
     shown = []

@@ -140,7 +140,7 @@ def exercise_row(bench, folder):
     bench.wait("location.hash.includes('thought=cannot')")
     faults += differs("after it", bench.value(in_sight), [True, True, True, True])
     bench.value("byId('test-part').open = false; scrollTo(0, 0)")
-    faults += differs("the answer", bench.text("#exercise-thought").startswith("You said: it can't be."), True)
+    faults += differs("the answer, with its button", [bench.text("#exercise-thought%s" % each) for each in ("", " > [data-ask=why]")], ["You said: it can't be. Why can or can't it be? tells whether that is so.", "Why can or can't it be?"])
     faults += differs("the focus stays, and nothing moves", bench.value("[document.activeElement.dataset.thought, scrollY]"), ["cannot", 0])
     bench.window.requests.clear()
     return faults + judged_exercise(bench) + safety(bench)

@@ -203,14 +203,14 @@ def unkept_row(bench):
     bench.fill("test", MANY_PASS)
     bench.value("putCommand('why'); begin()")
     bench.wait("!bench.task && document.querySelector('.reason')")
-    faults += differs("of many loads that pass", bench.value("(fold => [fold.textContent.includes('6 more of this run, which the cycle'), [...fold.querySelectorAll('li')].map(each => each.textContent[1])])(document.querySelector('.reason > .in-tables'))"), [True, [*"234567"]])
+    faults += differs("of many loads that pass", bench.value("(fold => [fold.open, fold.firstChild.textContent, [...fold.querySelectorAll('li')].map(each => each.textContent[1])])(document.querySelector('.passing details'))"), [False, "And 6 others.", [*"234567"]])
     lanes = "[...document.querySelectorAll('.reason .head')].map(each => each.textContent)"
     room = "(figure => [figure.scrollWidth <= figure.clientWidth, figure.getBoundingClientRect().right <= innerWidth])(document.querySelector('.reason figure'))"
     bench.window.resize(1280, 800)
     bench.fill("test", MANY_PASS + "\n")
     bench.value("begin()")
     bench.wait("!bench.task && document.querySelector('.reason')")
-    bench.value("document.querySelector('.pick[value=P]').click(); for (const each of document.querySelectorAll('.drawn-part input')) each.click()")
+    bench.value("document.querySelector('.pick[value=P]').click(); for (const each of document.querySelectorAll('.stepping input')) each.click()")
     faults += differs("eight cores", bench.value(lanes), ["P%d" % core for core in range(8)]) + differs("side by side at 1280", bench.value(room), [True, True])
     faults += differs("long tables", bench.value("document.querySelector('.in-tables').open"), False)
     bench.load(text_of("SB"), "0s 1s 0s 1s 0d 1d")

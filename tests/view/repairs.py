@@ -220,10 +220,10 @@ def kept_command_row(bench):
     bench.open_fresh()
     bench.value("takeFromLibrary('store-buffering.litmus')")
     faults = [] if "This example comes with" in bench.text("#sentence") else ["it says " + bench.text("#sentence")]
-    bench.value("putCommand('why'); takeFromLibrary('store-buffering-fenced.litmus')")
+    bench.value("byId('test-part').open = true; putCommand('why'); takeFromLibrary('store-buffering-fenced.litmus')")
     bench.wait("!bench.task && document.querySelector('.reason')")
-    found = bench.value("[currentCommand(), document.querySelector('.answer-title').textContent]")
-    return faults + differs("the command", found, ["why", "Why it can't be"]) + safety(bench)
+    found = bench.value("[currentCommand(), document.querySelector('.answer-title').textContent, byId('test-part').open, byId('states').getBoundingClientRect().top < innerHeight / 2]")
+    return faults + differs("the command", found, ["why", "Why it can't be", False, True]) + safety(bench)
 
 
 def words_row(bench):
@@ -295,7 +295,7 @@ FOREIGN = "X86 foreign\n{ }\n P0 | P1 ;\n MOV EAX,[x] | MOV R8D,[x] ;\n MOV R8D,
 NAMED = "f:\n movl r0(%rip), %eax\n mov [rip+r8], 2\n .data\nr0:\n .long 5\n"
 FROM_NAMED = "X86 pasted\n{ _r0=5; }\n P0            ;\n MOV EAX,[_r0] ;\n MOV [_r8],$2  ;\nexists (0:EAX=0)\n"
 EXPLORED = "".join("t%d:\n        mov     eax, 1\n        xchg    eax, DWORD PTR flag%d[rip]\n        mov     eax, DWORD PTR flag%d[rip]\n        ret\n" % (core, core, 1 - core) for core in (0, 1))
-FROM_EXPLORED = "X86 pasted\n{ }\n P0               | P1               ;\n MOV EAX,1        | MOV EAX,1        ;\n XCHG [flag0],EAX | XCHG [flag1],EAX ;\n MOV EAX,[flag1]  | MOV EAX,[flag0]  ;\nexists (0:EAX=0 /\\ 1:EAX=0)\n"
+FROM_EXPLORED = "X86 pasted\n{ }\n P0               | P1               ;\n MOV EAX,$1       | MOV EAX,$1       ;\n XCHG [flag0],EAX | XCHG [flag1],EAX ;\n MOV EAX,[flag1]  | MOV EAX,[flag0]  ;\nexists (0:EAX=0 /\\ 1:EAX=0)\n"
 RENAMED = "X86 foreign\n{ }\n P0          | P1          ;\n MOV EAX,[x] | MOV ECX,[x] ;\n MOV EBX,[y] | MOV EAX,[y] ;\n MOV [x],EBX | MOV EBX,[y] ;\nexists (0:EBX=1 /\\ 1:ECX=1)\n"
 GCC = '\t.file\t"a.c"\n\t.text\nf:\n.LFB0:\n\t.cfi_startproc\n\tmovl\t$1, x(%rip)\n\tmovl\ty(%rip), %eax\n\tret\n.LFE0:\n\t.size\tf, .-f\ng:\n\tmovl\t$1, y(%rip)\n\tlock orq\t$0, (%rsp)\n\tret\n\t.data\ny:\n\t.long\t5  # 0x5\n'
 FROM_GCC = "X86 pasted\n{ y=5; }\n P0          | P1         ;\n MOV [x],$1  | MOV [y],$1 ;\n MOV EAX,[y] | MFENCE     ;\nexists (0:EAX=0)\n"
@@ -310,7 +310,7 @@ def listing_row(bench):
     """A compiler's listing becomes a test by one press, and a raw file of an assembler, and a test of X86_64 one of X86; and a register that isn't read here one that its core
     doesn't use, in the condition too. It says what became of them, each kind of change once."""
     faults = []
-    for text, name, written, said in ((LISTING, "Write it as a test", LISTED, "a test of 2 cores"), (EXPLORED, "Write it as a test", FROM_EXPLORED, "line 5: xchg eax, DWORD PTR flag0[rip] became XCHG [flag0],EAX"), (DISASSEMBLED, "Write it as a test", "X86 pasted\n{ }\n P0          ;\n MOV [x],$1  ;\n MOV EAX,[y] ;\nexists (0:EAX=0)\n", "Written: a test of 1 core; line 4: movl $1,x(%rip) became MOV [x],$1"), (NAMED, "Write it as a test", FROM_NAMED, "a test of 1 core, location r0 became _r0, location r8 became _r8"), (GCC, "Write it as a test", FROM_GCC, "a test of 2 cores; line 4: movl $1, x(%rip) became MOV [x],$1; line 4: movl $1, y(%rip) became MOV [y],$1; line 5: lock orq $0, (%rsp) became MFENCE"),
+    for text, name, written, said in ((LISTING, "Write it as a test", LISTED, "a test of 2 cores"), (EXPLORED, "Write it as a test", FROM_EXPLORED, "P0: xchg eax, DWORD PTR flag0[rip] became XCHG [flag0],EAX"), (DISASSEMBLED, "Write it as a test", "X86 pasted\n{ }\n P0          ;\n MOV [x],$1  ;\n MOV EAX,[y] ;\nexists (0:EAX=0)\n", "Written: a test of 1 core; P0: movl $1,x(%rip) became MOV [x],$1"), (NAMED, "Write it as a test", FROM_NAMED, "a test of 1 core, location r0 became _r0, location r8 became _r8"), (GCC, "Write it as a test", FROM_GCC, "a test of 2 cores; P0: movl $1, x(%rip) became MOV [x],$1; P1: movl $1, y(%rip) became MOV [y],$1; P1: lock orq $0, (%rsp) became MFENCE"),
                                       (FOREIGN, "Write it so", RENAMED, "P1: R8D became ECX; P0: R8D became EBX"), (DIY, "Write it so", FROM_DIY, "X86_64 became X86, with registers of 32 bits")):
         bench.open_fresh()
         bench.fill("test", text)
@@ -318,12 +318,12 @@ def listing_row(bench):
         press(bench, "#write-so")
         faults += differs("written", bench.value("byId('test').value"), written)
         faults += [] if said in bench.text(".writing .noticed") else ["it says " + bench.text(".writing .noticed")]
-    said = "Line 8 (testl) and line 9 (je): there are no jumps, compares or calls here. Keep what the cores do alone, by the one way that is taken: without such lines this can be written as a test."
+    said = "Line 8 (testl) and line 9 (je): there are no jumps, compares or calls here. Without such lines this can be a test, of the one way that takes no jump."
     bench.fill("test", DISASSEMBLED.replace("<y>", "<_init+0x4>"))
     said_of_names = "This listing has no names of locations: paste what gcc -S writes, or objdump -dr of an object file."
     faults += differs("without names", bench.value("[byId('write-so').hidden, byId('plain').textContent, byId('test-band').dataset.line]"), [True, said_of_names, "4"])
     bench.fill("test", GCC.replace("\tret\n", "\ttestl\t%eax, %eax\n\tje\t.L5\n", 1))
-    faults += differs("with a jump", bench.value("[byId('write-so').hidden, byId('plain').textContent, byId('test-band').dataset.line]"), [True, said, "8"])
+    faults += differs("with a jump", bench.value("[byId('write-so').textContent, byId('plain').textContent, byId('test-band').dataset.line]"), ["Leave these lines out", said, "8"])
     return faults + safety(bench)
 
 

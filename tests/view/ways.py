@@ -1,7 +1,7 @@
 """A row for the ways of arrows in the pictures of `why`: no two of them look like one."""
 import drawn_edges
 import reasons
-from bench import safety
+from bench import differs, safety
 from driver import Driver
 
 MIXED = """X86 mixed
@@ -31,6 +31,44 @@ def apart_row(bench):
     return faults + safety(bench)
 
 
+def twice(register):
+    """Eight cores that load a neighbour's location twice, with a fence or a locked instruction between; the condition is of one of these registers."""
+    lines = ["MOV [a%d],$1", "MOV EAX,[a%d]", "MOV [b%d],$1", "MOV ECX,[b%d]", "MFENCE", "MOV EDX,[a%d]"]
+    steps, cores = (0, 1, 0, 3, 0, 1), range(8)
+    rows = [" | ".join("LOCK ADD [b0],$1" if line == "MFENCE" and core % 2 else line % ((core + step) % 8) if "%" in line else line for core in cores) for line, step in zip(lines, steps)]
+    return "X86 twice\n{ }\n%s ;\n%s\nexists (%s)\n" % (" | ".join("P%d" % core for core in cores), "\n".join(row + " ;" for row in rows), " /\\ ".join("%d:%s=0" % (core, register) for core in cores))
+
+
+OTHER = "X86 other\n{ }\n P0 | P1 ;\n MOV [x],$1 | MOV [y],$1 ;\n MOV EAX,[y] | MOV EBX,[x] ;\n | MOV [z],EBX ;\nexists (0:EAX=0 /\\ z=0)\n"
+FITS = "(({ scrollWidth, clientWidth, firstChild }) => [scrollWidth <= clientWidth, 13 * clientWidth / firstChild.viewBox.baseVal.width >= 10])(sheet.cycle.picture)"
+
+
+def asked_row(bench):
+    """A cycle of eight cores is of the loads that are asked for alone, with code names where a program loads a location twice, and where it has few rows all of
+    it is in sight. What is asked for stands once, and of many loads that pass stores the first two. A cycle of other loads says so. What was written as LFENCE
+    stands so."""
+    bench.open_fresh(width=1280)
+    bench.window.resize(1280, 800)
+    reads = "fr P0's load of a1 (P0:%d) read the older value, so it came before P1's store a1=1."
+    told = "[sheet.cycle.closed, sheet.cycle.sentences.children[1].textContent, [...document.querySelectorAll('.reason .step-given')].filter(each => each.getClientRects().length > 0).length, document.querySelectorAll('.passing details').length, %s]" % FITS
+    faults = []
+    for register, wanted in (("EAX", [16, reads % 1, 0, 1, [True, True]]), ("EDX", [20, reads % 5, 0, 0, [False, False]])):
+        bench.fill("test", twice(register))
+        bench.value("askWhy()")
+        bench.wait("!bench.task && document.querySelector('.reason [data-edge]')")
+        faults += differs("of " + register, bench.value(told), wanted)
+    bench.fill("test", OTHER)
+    bench.value("askWhy()")
+    bench.wait("!bench.task && document.querySelector('.reason [data-edge]')")
+    faults += differs("a cycle of other loads", "So this run needs store buffers, by other loads than those asked for: without" in bench.text(".told-edges"), True)
+    bench.fill("test", reasons.text_of("SB").replace(" MOV EAX,[y]", " LFENCE | SFENCE ;\n MOV EAX,[y]", 1))
+    bench.value("askWhy()")
+    bench.wait("!bench.task && document.querySelector('.reason [data-edge]')")
+    faults += differs("as written", bench.value("[...document.querySelectorAll('.reason figure text')].map(each => each.textContent).filter(each => each.includes('FENCE'))"), ["1  LFENCE", "1  SFENCE"])
+    faults += differs("that they do nothing", " LFENCE has no effect here. SFENCE has no effect here." in bench.text(".relations"), True)
+    return faults + safety(bench)
+
+
 def rows(page, _):
     bench = Driver(page)
-    return [("ways of arrows that share no stretch", lambda: apart_row(bench))]
+    return [("ways of arrows that share no stretch", lambda: apart_row(bench)), ("why of eight cores, what is asked for", lambda: asked_row(bench))]

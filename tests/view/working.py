@@ -219,7 +219,7 @@ def unfinished_row(bench):
     bench.wait("!bench.task && document.querySelector('.ways-on')")
     said = bench.text("#states")
     faults += ["of why it doesn't say " + word for word in ("1 cases", "Find all outcomes", "Allow 10 cases") if word not in said]
-    press(bench, "[data-ask]")
+    press(bench, ".ways-on [data-ask]")
     bench.wait("!bench.task && document.querySelector('.states-sheet')")
     return faults + safety(bench)
 

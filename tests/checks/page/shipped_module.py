@@ -21,7 +21,7 @@ SCRIPT = os.path.join("view", "module.js")
 FORM = re.compile(
     rb"// The machine: the proved code of version (?P<version>[0-9.]+) as a module of WebAssembly\. Made by tools/page --renew: "
     rb"not to be changed by hand\.\n'use strict';\n\nconst MODULE = \{\n  version: '(?P=version)',\n"
-    rb"  sources: '(?P<sources>[0-9a-f]{64})',\n  tools: '(?P<tools>[^'\\\n]+)',\n  packed:\n    '(?P<packed>[0-9A-Za-z!#$%&()*+,;=>?@^_`{|}~-]+)',\n\};\n")
+    rb"  sources: '(?P<sources>[0-9a-f]{64})',\n  tools: '(?P<tools>[^'\\\n]+)',\n  packed:\n    '(?P<packed>[ !#-&(-;=-\[\]-~]+)',\n\};\n")
 
 # What a digest is made of, by tools/digests, in this order; the first two are lists of a release too.
 LISTS = ("sources", "proofs", "page")
