@@ -178,7 +178,7 @@ const PLAIN_WORDS = {
 function showSaid({ status, hint }, said) {
   byId('told').classList.toggle('mild', status === Tso.STATUS.unended);
   byId('said').textContent = PLAIN_WORDS[status] ?? said;
-  byId('hint').textContent = pageHint(hint);
+  byId('hint').textContent = pageHint(hint).replace(/^hint: ./gm, all => all.at(-1).toUpperCase());
 }
 
 /** What an answer says in the words of litmus tests, folded. */

@@ -323,7 +323,7 @@ class CyclePanel {
   /** What the step says, where the sentences aren't beside the picture, and for readers of screens. */
   say(edge) {
     const isEnd = this.end.textContent !== '' && (this.shown === this.closed || this.shown === this.last);
-    const said = edge === undefined ? [this.shown > 0 ? 'All arrows that are drawn.' : isLecture() ? '' : `${this.cycle.some(({ relation }) => relation === 'unkept') ? 'Solid arrows say what must come before what; dashed ones TSO doesn\'t keep.' : 'Each arrow says what must come before what.'} “Next arrow” tells them one by one.`] : [`${arrowName(this.shown - 1)} `, chipOf(edge.relation, this.isNarrow), ' ', edgeSentence(edge),
+    const said = edge === undefined ? [this.shown > 0 ? 'All arrows that are drawn.' : isLecture() ? `${[questionOf(inputOf('sweep'))].filter(asked => asked !== byId('asked-line').textContent)} The reason, arrow by arrow.` : `${this.cycle.some(({ relation }) => relation === 'unkept') ? 'Solid arrows say what must come before what; dashed ones TSO doesn\'t keep.' : 'Each arrow says what must come before what.'} “Next arrow” tells them one by one.`] : [`${arrowName(this.shown - 1)} `, chipOf(edge.relation, this.isNarrow), ' ', edgeSentence(edge),
       html('span', { class: 'faint' }, { fr: ' fr is “from read”.', unkept: ' po is “program order”.' }[edge.relation] ?? ` ${meaningOf(edge.relation, this.cycle)}`)];
     this.said.replaceChildren(...said, ...(isEnd ? [' ', html('strong', {}, this.end.textContent)] : []));
   }

@@ -160,9 +160,9 @@ function showEnd(history) {
 function tellInWords(element, { proposition, programs }, { condition }) {
   const wanted = condition && wantedWords(proposition);
   if (!wanted) return;
-  const [said] = element.textContent.split('Condition: '), words = loadsSentence(wanted, programs).replace(/^b/, 'B') || wantedSentence(wanted);
+  const [said] = element.textContent.split('Condition: '), words = loadsSentence(wanted, programs) || wantedSentence(wanted), isShown = condition.holds && condition.kind !== 'forall';
   MEANINGS.written = `Written ${condition.kind} (${proposition}).`;
-  element.replaceChildren(said, withMeaning({ tabindex: -1 }, 'written', words), `: ${condition.holds}.`);
+  element.replaceChildren(isShown ? said.replace(/\. $/, ': ') : said, withMeaning({ tabindex: -1 }, 'written', isShown ? words : words.replace(/^b/, 'B')), isShown ? '.' : `: ${condition.holds}.`);
 }
 
 /** Lists what loads passed so far. */

@@ -65,7 +65,7 @@ function seeChoices(isInSight) {
   if (isInSight) writeChoices();
 }
 
-// A field that marks a line has a column of numbers and a band under the line.
+// A field's column of numbers, and the band under its marked line.
 
 const ROWS = { least: 12, most: 18 }; // of the field of a test, which grows with it
 
@@ -85,11 +85,13 @@ function placeAll() {
   for (const id of ['test', 'given']) placeLines(id);
 }
 
-/** Draws the numbers of a field's lines, and marks this one; null marks none. */
+/** Draws the numbers of a field's lines, and marks this one, or none: in sight, where it wasn't typed. */
 function drawLines(id, marked) {
   const field = byId(id), [gutter, band] = [byId(id + '-lines'), byId(id + '-band')];
   if (id === 'test') showWidth();
   const count = countLines(field.value), key = `${count} ${marked}`;
+  const isTyped = Math.abs(field.value.length - gutter.dataset.size) < 3;
+  gutter.dataset.size = field.value.length;
   if (gutter.dataset.key === key) return;
   gutter.dataset.key = key;
   if (id === 'test') field.rows = Math.min(ROWS.most, Math.max(ROWS.least, count));
@@ -99,6 +101,8 @@ function drawLines(id, marked) {
   band.hidden = marked === null || marked > count;
   band.dataset.line = marked ?? '';
   placeLines(id);
+  const from = parseFloat(band.style.top), high = field.clientHeight;
+  if (!isTyped && !band.hidden && (from < 0 || from > high - 24)) field.scrollTop += from - high / 2;
 }
 
 /** Keeps numbers and band beside their lines while the field is scrolled. */
@@ -182,7 +186,8 @@ function focusRefusal() {
   const field = byId(byId('given-band').hidden ? 'test' : 'given'), band = byId(field.id + '-band'), { line, from = 0 } = band.dataset;
   const at = field.value.split('\n', line - 1).join('\n').length + (line > 1) + Number(from);
   field.setSelectionRange(at, at);
-  field.focus({ preventScroll: true });
+  field.blur(); // focus shows the caret
+  field.focus();
   for (const part of [byId('told'), band]) part.scrollIntoView({ block: 'nearest' });
 }
 
@@ -216,8 +221,8 @@ const spanOf = lines => [lines.findIndex(line => /^\s*P\d+\s*[|;]/.test(line)), 
 
 const freeRegister = used => PLAIN_REGISTERS.find(each => !new RegExp(`\\b[ER]?${each.slice(1)}\\b`, 'i').test(used));
 
-/** A test in which a register as R8D is one that its core doesn't use; null where none is left. Its bare name in the condition
- * is meant too, where in the text as it was `written` no other core has it, and no location. */
+/** A test in which a register as R8D is a free one of its core, or null. In the condition its bare name is meant, too, where in the
+ * text `written` no other core has it, and no location. */
 function renamed(given, at, name, written) {
   const [first, last] = spanOf(given);
   const named = new RegExp(`\\b${name.replace(/^(r\d+)d?$/i, '$1d?')}\\b`, 'gi'), core = cellsOf(given[at]).findIndex(({ text }) => text.search(named) >= 0), places = new RegExp(`\\b${core}:\\w+`, 'g');
@@ -231,8 +236,9 @@ function renamed(given, at, name, written) {
   return free && core >= 0 ? { text: write(part => part.replace(named, free)), isOther: true, said: `P${core}: ${name} became ${free}` } : null;
 }
 
-/** A hint, or one of the line that it means, where that is a row which lacks its ; alone. */
+/** A hint, or one of the line that it means, where that is a row which lacks its ; alone; or that of a listing. */
 function rowHint(test, hint) {
+  if (/no line begins/.test(hint) && /^\s*push/m.test(test)) return 'hint: line 1: instructions alone';
   const [said, number] = /^hint: line (\d+): (?:no ; (?:or \||ends the row of cores)|a condition begins with|\w+ begins a row as in C)/.exec(hint) ?? [], lines = test.split('\n');
   const head = lines.findIndex(line => /^\s*P0\b/.test(line)), at = said?.includes('cores') ? head : number - 1, line = lines[at] ?? '';
   const isRow = head >= 0 && at >= head && cellsOf(line).length === cellsOf(lines[head]).length && /^\s*[a-z][\w\s|$[\],=]*$/i.test(line);
@@ -255,6 +261,7 @@ function repaired(test, told = '', written = test) {
   const [, number, said = ''] = /^hint: line (\d+): (.*)/.exec(hint) ?? [], at = number - (said.includes('cores in the line before') ? 2 : 1), lines = test.split('\n'), line = lines[at] ?? '';
   const listing = LISTING.test(said) && plainListing(test, said);
   if (listing) return barredIn(listing) ? straight(listing) : listingAsTest(listing);
+  if (FRAMELESS.test(said)) return framed(test);
   if (/^X86_64 tests|X86 in place of X86_64/.test(said)) return narrowed(test);
   if (said.includes('is a type') && untyped(test) !== test) return { text: untyped(test), said: 'items without types' };
   const [, foreign] = / is for (\w+): take/.exec(said) ?? [];
@@ -304,10 +311,12 @@ function conditionOver(test) {
 
 /** A test with all that is certain to be meant, and the status of its answer. */
 function allRepaired(text, hint, options = { command: 'run' }) {
-  const changes = [], written = text;
+  const changes = [];
+  let written = text; // with its frame
   let status;
   for (let found = repaired(text, hint, written); found !== null && changes.length < MOST_REPAIRED; found = repaired(text, hint, written)) {
     ({ text } = found);
+    if (found.isFrame) written = text;
     changes.push(found);
     ({ hint, status } = asked(options, text));
   }
@@ -318,12 +327,12 @@ function allRepaired(text, hint, options = { command: 'run' }) {
 function writeRepairs() {
   const field = byId('test'), { options } = readSettings('run');
   notice.test = null; // what was said of it goes
-  const isListing = LISTING.test(bench.answer.hint), { text, changes, status } = allRepaired(field.value, bench.answer.hint, options);
+  const isListing = LISTING.test(rowHint(field.value, bench.answer.hint)), { text, changes, status } = allRepaired(field.value, bench.answer.hint, options);
   const isTest = isListing && status !== Tso.STATUS.refused, askedFor = isTest ? conditionOver(text) : '';
   undoing.field = null;
   field.focus();
   field.select();
-  document.execCommand('insertText', false, aligned(isTest ? inOneForm(text) : text) + askedFor); // which the field can undo, too
+  document.execCommand('insertText', false, aligned(isTest ? inOneForm(text) : text) + askedFor); // the field can undo it
   const said = `Written: ${changesSaid(changes, isListing)}${askedFor && 'Write into exists what you ask for. '}`, isRefused = bench.answer?.status === Tso.STATUS.refused;
   if (isRefused) focusRefusal();
   else notice.said = said + noticeOf(inputOf('sweep')); // while the test is the same
@@ -341,13 +350,14 @@ function markRefusal({ text, hint: given }) {
   const said = inFull(hint, written), cell = place?.field === 'test' && place.line > spanOf(test.split('\n'))[0] ? cellAtFault(written, said) : null;
   const before = place?.field === 'test' ? document.querySelector('.writing .noticed') : byId('given-part');
   if (before.nextElementSibling !== byId('told')) before.after(byId('told')); // next by Tab
-  const isBarred = place?.said !== undefined, isOffered = place?.field === 'test' && (isBarred ? (allRepaired(test, hint).status ?? Tso.STATUS.refused) !== Tso.STATUS.refused : repaired(test, hint) !== null);
+  const isBarred = place?.said !== undefined, isOffered = place?.field === 'test' && (isBarred || hint.includes('X86_64') ? (allRepaired(test, hint).status ?? Tso.STATUS.refused) !== Tso.STATUS.refused : repaired(test, hint) !== null);
   const [, offered] = (isOffered && OFFERED.find(([theirs]) => theirs.test(hint))) || [];
-  byId('plain').replaceChildren(...withCode(place?.said ?? (offered ? `Line ${place.line}: ${offered}.` : plainRefusal(place, cell, line, said))));
+  const plain = place?.said ?? (offered ? `Line ${place.line}: ${offered}.` : plainRefusal(place, cell, line, said)), [named] = /^(Order, l|L)ine \d+|/.exec(plain);
+  byId('plain').replaceChildren(...(named && [html('button', { type: 'button' }, named)]), ...withCode(plain.slice(named.length)));
   byId('told').classList.toggle('by-hint', place?.line !== undefined);
   for (const id of ['test', 'given']) drawLines(id, place?.field === id && place.line ? place.line : null);
   markCell(cell);
-  for (const id of ['test', 'choices', 'given']) byId(id).setAttribute('aria-invalid', String(place?.field === id));
+  for (const id of ['test', 'choices', 'given']) byId(id).ariaInvalid = place?.field === id;
   byId('remove-choices').hidden = !place?.word;
   byId('write-so').hidden = !isOffered;
   byId('write-so').textContent = isBarred ? 'Leave these lines out' : LISTING.test(hint) ? 'Write it as a test' : 'Write it so';
@@ -359,3 +369,5 @@ function removeChoices() {
   answerNow(true);
   byId('choices').focus({ preventScroll: true });
 }
+
+byId('plain').addEventListener('click', ({ target }) => target.matches('button') && focusRefusal());

@@ -4,9 +4,9 @@
 
 const MOST_ASKED = 400; // characters of the question
 
-/** The exercise that was opened: its test, what is asked, what the reader thinks, `can` or `cannot`, what the test itself asks, and what an answer
+/** The exercise that was opened: its test, what is asked, what the reader thinks, `can` or `cannot`, and what an answer
  * said of that thought; null where it isn't known yet; and whether an answer was seen, or a run did it (`isSolved`). */
-const exercise = { test: null, asked: '', thought: null, question: null, judged: null, isSolved: false };
+const exercise = { test: null, asked: '', thought: null, judged: null, isSolved: false };
 
 const isExercise = () => exercise.test !== null && exercise.test === byId('test').value && lesson.told === null;
 const isUnanswered = () => isExercise() && exercise.thought === null;
@@ -14,7 +14,7 @@ const isUnanswered = () => isExercise() && exercise.thought === null;
 function putExercise(told) {
   const asked = told.get('exercise'), thought = told.get('thought'), test = asked === null ? null : told.get('test');
   const isSame = test === exercise.test && thought === exercise.thought;
-  Object.assign(exercise, { test, asked: (asked ?? '').slice(0, MOST_ASKED), thought: ['can', 'cannot'].includes(thought) ? thought : null, question: null });
+  Object.assign(exercise, { test, asked: (asked ?? '').slice(0, MOST_ASKED), thought: ['can', 'cannot'].includes(thought) ? thought : null });
   if (!isSame) Object.assign(exercise, { judged: null, isSolved: false });
 }
 
@@ -52,8 +52,8 @@ function answerExercise(thought) {
   if (drive.isOn) showDrive();
 }
 
-/** Whether the task over the test would ask a second time what the exercise asks. */
-const isAskedTwice = () => isExercise() && exercise.asked === (exercise.question ??= questionOf(drive.test));
+/** Whether the task over the test would ask a second time what the exercise asks: a yes or no answers both. */
+const isAskedTwice = () => isExercise() && exercise.asked !== '' && !/(^|: )(why|how|what)\b/i.test(exercise.asked);
 
 /** On top of an answer: what the reader had said, and whether it is so. A claim of each run asks another thing. */
 function judgeThought(can) {
@@ -87,7 +87,7 @@ function beginExercise() {
   const form = byId('exercise-form');
   byId(byId('run').hidden ? 'way-back' : 'saves').append(form, byId('list-part'));
   form.hidden = false;
-  byId('exercise-said').value = proposedQuestion(inputOf('sweep'));
+  byId('exercise-said').value = questions.get(byId('test').value) ?? proposedQuestion(inputOf('sweep'));
   byId('exercise-said').focus();
   byId('exercise-said').select();
 }
@@ -96,18 +96,25 @@ function beginExercise() {
 const withoutVerdicts = test => test.replace(/^(?:TSO|SC|Seen)=.*\n/gm, '');
 
 /** The address of an exercise: the test of an address with its settings and what stands beside, and the question. */
-function exerciseAt(address, asked) {
+function exerciseAt(address) {
   const told = new URLSearchParams(address), test = withoutVerdicts(told.get('test'));
   for (const name of ['choices', 'order', 'command', 'at', 'thought']) told.delete(name);
+  told.set('exercise', questions.get(told.get('test')) ?? told.get('exercise') ?? questionOf(test));
   told.set('test', test);
-  told.set('exercise', asked ?? told.get('exercise') ?? questionOf(test));
   return told.toString();
 }
 
-const questionToAsk = () => byId('exercise-said').value.trim().slice(0, MOST_ASKED);
+/** What was asked of each test. */
+const questions = new Map();
+
+/** The exercise's address, with what the form asks, or did. */
+function exerciseNow() {
+  if (!byId('exercise-form').hidden) questions.set(byId('test').value, byId('exercise-said').value.trim());
+  return exerciseAt(currentAddress());
+}
 
 function saveExercise() {
-  const asked = questionToAsk(), address = exerciseAt(currentAddress(), asked), { lessons } = taught;
+  const address = exerciseNow(), asked = new URLSearchParams(address).get('exercise'), { lessons } = taught;
   const seen = `${asked === '' ? '' : ` It asks: “${asked}”`} It starts without choices${drive.beside === ABREAST ? ', with all four protocols' : ''}, and hides the answers until students have answered.`;
   return saveWhole(fileName(`${testName()}-exercise`, '.html'), () => wholePage(address, lessons.length === 0 ? '' : JSON.stringify({ lessons })), seen);
 }
@@ -118,12 +125,14 @@ function saveExercises() {
 }
 
 Object.assign(SAVES, { exercise: beginExercise, exercises: saveExercises });
-byId('exercise-form').addEventListener('submit', event => {
+byId('exercise-form').addEventListener('submit', async event => {
   event.preventDefault();
+  const saved = saveExercise();
   byId('exercise-form').hidden = true;
-  saveExercise();
+  await saved;
+  document.querySelector('.page-saved:not(:empty)')?.append(' ', listButton({ 'data-see': '', class: 'quiet' }, 'See it as a student'));
 });
-byId('exercise-see').addEventListener('click', () => sayDone('.page-saved', window.open(`${location.pathname}#${exerciseAt(currentAddress(), questionToAsk())}`) ? 'Opened in a new tab.' : 'No new tab opened.'));
 document.addEventListener('click', ({ target }) => {
   if (target.dataset?.thought !== undefined) answerExercise(target.dataset.thought);
+  if (target.matches('[data-see]')) sayDone('.page-saved', window.open(`${location.pathname}#${exerciseNow()}`) ? 'Opened in a new tab.' : 'No new tab opened.');
 });

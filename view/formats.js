@@ -1,6 +1,6 @@
 'use strict';
 
-// The answer as it is printed, and as JSON. A search was asked for JSON: the other form is asked for when somebody wants it.
+// The answer as it is printed, and as JSON. A search was asked for JSON: the other form when somebody wants it.
 
 /** The commands that answer in both forms. */
 const IN_BOTH = ['run', 'outcomes', 'counts', 'why'];

@@ -55,7 +55,7 @@ function comparedSentence(core, read, written, eax, from) {
 }
 
 /** An operation's name with the value on its right, as it is written between the two. */
-const OPERATIONS = { ADD: '+', XADD: '+', SUB: '−', AND: 'AND', OR: 'OR', XOR: 'XOR' };
+const OPERATIONS = { ADD: '+', XADD: '+', INC: '+', SUB: '−', DEC: '−', AND: 'AND', OR: 'OR', XOR: 'XOR' };
 
 /** How a word was made by an instruction that computes, as ` (3 + 2)`; empty where none computed it. `old` is the word that it changes,
  * and `registers` are those before it. */
@@ -63,7 +63,7 @@ function computedWords(instruction, old, registers) {
   const [, name, operand] = /^(?:LOCK\s+)?([A-Z]+)\s+[^,]+(?:,\s*(\S+))?$/i.exec(instruction) ?? [];
   if (name === undefined) return '';
   if (/^NEG$/i.test(name)) return ` (0 − ${old})`;
-  const sign = OPERATIONS[name.toUpperCase()], value = registers[operand?.toUpperCase()] ?? operand?.replace('$', '');
+  const sign = OPERATIONS[name.toUpperCase()], value = registers[operand?.toUpperCase()] ?? operand?.replace('$', '') ?? 1;
   return sign === undefined ? '' : ` (${old} ${sign} ${value})`;
 }
 
@@ -132,7 +132,7 @@ function sharedLine({ steps }, count) {
   const made = count < steps.length ? [] : steps.filter(({ access, entries }) => access && entries.length > 0), sizeOf = part => new Set(made.map(part)).size, wordOf = ({ entries }) => entryOf(entries[0]).location;
   const missed = made.filter(({ access }) => access === 'miss'), taken = missed.filter(step => stateChanges(step).some(({ core }) => core !== coreOfChoice(step.choice)));
   const words = taken.length > 0 && isAtEnd(drive) && sizeOf(wordOf) === sizeOf(step => coreOfChoice(step.choice) + wordOf(step)) ? stateChanges(taken[0])[0].line.split('+') : [];
-  return words.length > 1 ? ` ${missed.length} of ${made.length} accesses missed: ${listed(words)} share a line, which ${taken.length} of them took from the other core.` : '';
+  return words.length > 1 ? ` ${missed.length} of ${made.length} accesses missed: ${listed(words)} share a line, and ${taken.length} of them took it from the other core.` : '';
 }
 
 /** The lines whose state a step changed, as `P1.x S→I`, for the panels and for reading. */

@@ -16,12 +16,13 @@ const IN_WORDS_OF_THE_PAGE = [
   [/; leave out the ; behind it.*/, ', and leave out the ; behind it'],
   [/(\w+) is no instruction: write (exists|forall)/, '“$1” isn\'t read: write $2'],
   [/this is a disassembly, .*/, 'this is a disassembly'],
-  [/(?:no register can hold an address|there is no stack).*/, '$&. Or compile with -O1'],
+  [/there is no stack.*/, '$&. Or compile with -O1'],
+  [/ ?[(;] ?the tool import .*/, ''],
+  [/X86_64 tests.*/, 'this is a test of X86_64: write X86, EAX for rax, and [x] for a register with x in it'],
   [/(C is a language|this is C): .*/, 'this is C, and here are x86 instructions: “From C and C++” below says which'],
   [/(; stands behind )?\bfence( isn't read|:).*/i, 'fence: write MFENCE'],
   [/'[^']*\[(\w+)\][^']*' is one too many: .* (\d+) locations/, (all, name, most) => `${name} is the ${Number(most) + 1}th location: at most ${most}`],
   [', and items have no types here', ', and items of { } have none'],
-  ['the tool import', 'the program tools/import of a checkout'],
   [/: an input has only one, so.*/, ': one test at a time'],
   [' after ====: ', ' of it: '],
   [/(\d+) stalled: /, '$1 did nothing: '],
@@ -97,10 +98,21 @@ function pageHint(hint) {
 }
 
 const LISTING = /^(hint: line \d+: )?(instructions alone|this is an assembler|this is a disassembly)/;
-const OFFERED = [[LISTING, 'this is a listing. The button makes a test of it'], [/X86_64/, 'this is a test of X86_64. The button makes it one of X86, with registers of 32 bits']];
+const FRAMELESS = /no rows stand before|ends before its initial state|stands before the initial state|no line begins a test|no header/;
+const OFFERED = [[FRAMELESS, 'these rows stand alone. The button writes above them what a test has: its name, { } and P0 | P1 ;'], [LISTING, 'this is a listing. The button makes a test of it'], [/X86_64/, 'this is a test of X86_64. The button makes it one of X86, with registers of 32 bits']];
 const ADDRESS = /^\s*[\da-f]+:\s*(?:[\da-f]{2}(?:\s+|$))*/; // and bytes
 const PLACE = /-?\w+(?=\(%rip\))|\[rip ?[+-] ?\w+\]/;
 const MOST_SAID = 4; // kinds of changes
+
+/** Rows of instructions, or of C, with what stands above them in a test; null where they aren't plain rows of some cores. */
+function framed(test) {
+  const lines = test.split('\n').filter(line => line.trim() !== ''), head = /^X86/.test(lines[0] ?? '') ? lines.shift() : 'X86 mine';
+  const asked = lines.findIndex(line => quantifierOf(line) !== null), last = asked < 0 ? lines.length : asked;
+  const rows = lines.slice(0, last).filter(line => !/^\s*P\d/.test(line)).map(line => line.replace(/;\s*$/, '').split('|').map(cell => cell.replace(/;\s*$/, '').trim()));
+  if (rows.length === 0 || rows[0].length < 2 || rows.some(({ length }) => length !== rows[0].length) || /[{}]/.test(test)) return null;
+  const above = rows[0].map((_, core) => `P${core}`);
+  return { text: [head, '{ }', ...[above, ...rows].map(cells => ` ${cells.join(' | ')} ;`), ...lines.slice(last), ''].join('\n'), isOther: true, isFrame: true, said: 'what stands above the rows was added' };
+}
 
 /** A listing; a disassembly without addresses and bytes, with the names of its comments and relocations. */
 const plainListing = (text, hint) => (!hint.includes('disassembly') ? text : text.split('\n').map((line, at, lines) => {
@@ -114,11 +126,13 @@ function barredIn(listing) {
   const all = [...listing.matchAll(/^[ \t]*((?:j|loop|call|set)\w*|(?:test|cmp)[bwlq]?)(?!\S)/gim)].map(({ 1: word, index }) => [countLines(listing.slice(0, index)), word]);
   const said = listed(all.slice(0, MOST_SAID).map(([line, word]) => `line ${line} (${word})`)).slice(1);
   const nameless = listing.search(/\b\d+[([]%?rip|\[rip ?[+-] ?\d/);
-  if (all.length > 0) return { field: 'test', line: all[0][0], said: `L${said}: there are no jumps, compares or calls here. Without such lines this can be a test, of the one way that takes no jump.` };
+  const stack = listing.search(/-\d+[([]%?rbp|\[rbp ?-/);
+  if (stack >= 0) return { field: 'test', line: countLines(listing.slice(0, stack)), said: 'This listing uses a stack, and a test has none: compile with -O1.' };
+  if (all.length > 0) return { field: 'test', line: all[0][0], said: `L${said}: there are no jumps, compares, calls or flags (set) here. Without such lines this can be a test, of the one way that takes no jump.` };
   return nameless < 0 ? null : { field: 'test', line: countLines(listing.slice(0, nameless)), said: 'This listing has no names of locations: paste what gcc -S writes, or objdump -dr of an object file.' };
 }
 
-const JUMP = /^\s*(?:j(?!mp)\w+|(?:test|cmp)[bwlq]?)(?!\S)/i;
+const JUMP = /^\s*(?:j(?!mp)\w+|(?:test|cmp)[bwlq]?)(?!\S)/i, FLAG = /^\s*(set\w+\s|movz\w+\s+%?\w+, ?%?\w+$)/i;
 
 /** A listing as a test of its straight way: no jumps, no function that calls others. Null where it can't be one. */
 function straight(listing) {
@@ -130,7 +144,7 @@ function straight(listing) {
   let hasEnded = false; // what stands behind its return is another way
   const found = listingAsTest(lines.map((line, at) => {
     hasEnded = !/^[^\s.#].*:/.test(line) && (hasEnded || /^\s*ret/.test(line));
-    if (JUMP.test(line) || (hasEnded && /^\s*(?!ret|nop|data|cs |xchg\s+%?ax)[a-z]/.test(line))) left.push(`line ${at + 1}`);
+    if (JUMP.test(line) || (FLAG.test(line) && /^\s*set/m.test(`${lines[at - 1]}\n${line}`) && /^\s*ret/.test(lines.slice(at).find(each => !FLAG.test(each)))) || (hasEnded && /^\s*(?!ret|nop|data|cs |xchg\s+%?ax)[a-z]/.test(line))) left.push(`line ${at + 1}`);
     else if (!hasEnded) return line;
     return '';
   }).join('\n'));

@@ -19,8 +19,8 @@ function putLecture(isOn) {
   showTestLine(currentCommand());
   if (shown.run || drive.isOn) redraw();
   if (drive.isOn) showDrive();
-  sheet.cycle?.show(isOn ? 0 : sheet.cycle.shown); // a lecture begins without arrows
   if (!drive.isOn && document.querySelector('.reason, .states-sheet')) showQuestion(inputOf('sweep'));
+  sheet.cycle?.show(isOn ? 0 : sheet.cycle.shown); // a lecture begins without arrows
   noteVisit();
   keepList();
   drawBar();
@@ -76,9 +76,9 @@ const isWhyNext = () => drive.isOn && !(isOfEntry() && isListed('why')) && first
 /** What PageDown does next, as the foot says it, and how: a step of what is shown, or what comes after it. */
 function onward() {
   const cycle = drawnCycle(), { isOn, count, words } = drive, at = placeNow() + 1, next = toGoThrough()[at];
-  if (cycle && cycle.shown < cycle.last) return [cycle.shown < cycle.closed ? `arrow ${cycle.shown + 1} of ${cycle.closed}` : 'all arrows', () => cycle.move('next')];
+  if (cycle && cycle.shown < cycle.last) return [cycle.shown < cycle.closed ? `shows arrow ${cycle.shown + 1} of ${cycle.closed}` : 'shows all arrows', () => cycle.move('next')];
   if (lesson.told !== null) return ['the lesson goes on', () => clickLesson(true)];
-  if (isOn && count < words.length) return [`step ${count + 1} of ${words.length}`, () => moveDriven('forward')];
+  if (isOn && count < words.length) return [`shows step ${count + 1} of ${words.length}`, () => moveDriven('forward')];
   if (isOn && !isAtEnd(drive) && otherBranches().length > 0) return ['back to the prepared run', () => takeBranch(0)];
   if (!isOn && !cycle && scrollY + innerHeight < document.documentElement.scrollHeight - BELOW) return ['scrolls on', () => scrollBy(0, SCROLLED * innerHeight)];
   if (!isOn && isInRun()) return ['the run goes on', backToRun];
@@ -107,12 +107,12 @@ function openBefore() {
 
 function saidOfNext(entry) {
   const now = toGoThrough()[placeNow()], test = plainName(entry), kind = ownNameOf(entry) ? '' : entry.name.split(': ')[1];
-  return now && kind && plainName(now) === test ? kind : `next test: ${test}`;
+  return now && kind && plainName(now) === test ? kind : `next, ${test}`;
 }
 
 function footSaid() {
   const next = onward();
-  return next ? `PageDown: ${next[0]}` : 'The end: PageUp goes back';
+  return next ? `PageDown: ${next[0]}`.replace(': shows', ' shows') : 'The end: PageUp goes back';
 }
 
 const showFoot = () => isLecture() && playlist.where !== footSaid() && drawBar();

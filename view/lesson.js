@@ -239,7 +239,7 @@ function showSentences() {
   putSaid('lesson-said', step.ask ?? (step.do === undefined ? step.say : ''));
   byId('lesson-said').classList.toggle('sum', isSum());
   putSaid('lesson-after', isStrayed ? `You may go your own way. ${drawn.panels[0]?.sentences.join(' ')}` : refused || (isDone && (step.ask === undefined ? step.then : judgedAnswer(step, answer))) || '');
-  byId('lesson-now').replaceChildren(...(isAsked() ? (refused === '' ? ['Answer first.'] : []) : wantedNow() === undefined ? [] : pressSaid(steps[at + isDone])));
+  byId('lesson-now').replaceChildren(...(isAsked() ? (refused === '' ? ['Answer first', html('span', { class: 'by-key' }, `: press ${step.answers.map((_, each) => keyOf(step.answers, each)).join(', ').replace(/, (?=\S$)/, ' or ')}`), '.'] : []) : wantedNow() === undefined ? [] : pressSaid(steps[at + isDone])));
   byId('lesson-now').classList.toggle('short', byId('lesson-now').textContent.length <= SHORT_SAID);
   const judged = isStrayed || answer === null || step.right === undefined ? '' : answer === step.right ? 'right' : 'wrong';
   byId('lesson-after').className = `after ${refused === '' ? judged : 'wrong'}`;

@@ -23,7 +23,7 @@ function comesBefore([one], [other]) {
   return more || (a === b ? 0 : a < b ? -1 : 1) || (one < other ? -1 : 1);
 }
 
-/** The entries of some texts; `isLarger` where these are in the larger set of instructions. */
+/** The entries of some texts; `isLarger` where they take the larger set. */
 function entriesOf(texts, group, isLarger = false) {
   return Object.entries(texts).sort(comesBefore).map(([file, text]) => {
     const notes = notesOf(text);

@@ -1,6 +1,6 @@
 'use strict';
 
-// Long commands: they are answered in a worker, and what is shown stays in sight until there is an answer.
+// Long commands: a worker answers them, and until then what is shown stays.
 
 const QUICK = 1500; // milliseconds: an answer to `why` that took no longer comes again by itself after an edit
 const TYPING = 300; // milliseconds without an edit
@@ -37,8 +37,8 @@ function stopTask() {
   endWorking();
 }
 
-/** Begins a long command in a worker. What is shown stays in sight until there is an answer. One that comes by itself (`isAgain`) is told
- * beside the test; a search that then needs more than `most` states waits until it is asked for. An answer that is there is gone to, and any where `goesThere`. */
+/** Begins a long command in a worker. One that comes by itself (`isAgain`) is told beside the test, and a search of more than `most`
+ * states then waits until it is asked for. An answer that is there is gone to, and any where `goesThere`. */
 async function begin({ isAgain, goesThere, most = Infinity } = {}) {
   const command = currentCommand(), { options } = showAsked(command), asks = JSON.stringify([options, inputOf(command)]);
   if (isAgain !== true && bench.told === asks) return focusAnswer();

@@ -20,10 +20,14 @@ const isLocked = instruction => /^LOCK\b|^XCHG\b.*\[/i.test(instruction);
 /** Whether an instruction compares a location with EAX. */
 const isComparing = instruction => /^LOCK\s+CMPXCHG\b/i.test(instruction);
 
-/** The programs with NOPs and exchanges as the test has them, where its rows are plain. */
+/** The programs with NOPs, INC, DEC and exchanges as the test has them, where its rows are plain. */
 function asWritten(test, programs) {
   const lines = test.split('\n'), rows = lines.slice(lines.findIndex(line => /^\s*P0\s*[|;]/.test(line)) + 1).filter(line => /;\s*$/.test(line)).map(cellsOf);
-  const asIn = (text, read) => (read === 'NOP' ? text.toUpperCase() : /^XCHG \w+ *, *\[/i.test(text) ? read.replace(/(\[\w+\]),(\w+)/, '$2,$1') : read);
+  const asIn = (text, read) => {
+    const [counts] = /\b(INC|DEC)(?= )/i.exec(text) ?? [];
+    if (counts) return read.replace(/(?:ADD|SUB) (.*),\$1$/, `${counts.toUpperCase()} $1`);
+    return read === 'NOP' ? text.toUpperCase() : /^XCHG \w+ *, *\[/i.test(text) ? read.replace(/(\[\w+\]),(\w+)/, '$2,$1') : read;
+  };
   return programs.map((program, core) => {
     const own = rows.flatMap(cells => cells[core]?.text || []);
     return own.length === program.length && !test.includes('(*') ? own.map((text, at) => asIn(text, program[at])) : program;

@@ -86,10 +86,13 @@ function isAtRest({ type, screenX: x, screenY: y }) {
   return rests;
 }
 
+const HEAVY = 9; // so many words count as much as a button or a buffer
+
 /** How high an explanation covers least: over its word, below it, or below what it names. */
 function heightOfMeaning(word, { offsetWidth: width, offsetHeight: height }) {
-  const [{ left, top, bottom }, next, ...taken] = [word, word.nextElementSibling ?? word, ...document.querySelectorAll('button, .word, .buffer, .program code')].map(part => part.getBoundingClientRect());
-  const covered = y => taken.filter(part => part.left < left + width && part.right > left && part.top < y + height && part.bottom > y).length;
+  const [{ left, top, bottom }, next] = [word, word.nextElementSibling ?? word].map(part => part.getBoundingClientRect());
+  const taken = [...document.querySelectorAll('button, .word, .buffer, .program code')].map(part => [part.getBoundingClientRect(), part.matches('button, .buffer') ? HEAVY : 1]);
+  const covered = y => taken.reduce((sum, [part, weight]) => sum + (part.left < left + width && part.right > left && part.top < y + height && part.bottom > y) * weight, 0);
   return [top - height - 4, bottom + 4, next.bottom + 4].filter(y => y >= 0 && y + height <= innerHeight).sort((one, other) => covered(one) - covered(other))[0] ?? 0;
 }
 

@@ -230,7 +230,6 @@ function lackOf() {
 /** Fills the bench with the first test, shows what the address tells, and else the first test's run. */
 async function start() {
   const lack = lackOf(), hasMachine = lack === null, keptState = window.history.state, told = addressAtFirst(), isOfTest = TEST_ADDRESS.test(told);
-  byId('bench').hidden = !hasMachine;
   if (!hasMachine) byId(lack).hidden = false;
   byId('input').open = !hasMachine || (told !== '' && !isOfTest);
   if (hasMachine) {
@@ -242,9 +241,9 @@ async function start() {
   if (!hasMachine) return;
   try {
     await makeBench();
+    byId('bench').hidden = false; // with all else: nothing moves it
     showLibrary(); // with the texts that this machine reads
   } catch (fault) {
-    byId('bench').hidden = true;
     byId('message').textContent = `This browser can't open the machine (${fault.message}), so this page draws runs that were made elsewhere.`;
     return;
   }

@@ -97,11 +97,11 @@ function drawWait(run, layout, store) {
   const { top, pitch } = layout;
   const x = layout.trackOf(store), wide = Math.min(7, pitch * 0.7), head = pitch === TRACK.most ? 16 : 2;
   const bar = (kind, from, to) => svg('rect', { class: kind, x: x - wide / 2, y: from, width: wide, height: to - from });
-  const way = `M${x} ${top(store.index)}V${layout.middle(store)}H${layout.boxOf(store).x}`;
+  const way = `M${x} ${earliest < store.index ? top(store.index) : layout.middle(store)}V${layout.middle(store)}H${layout.boxOf(store).x}`;
   const parts = [svg('title', {}, sentenceOf(run, store)), svg('path', { class: 'leaving', d: way })];
   if (earliest < latest) parts.push(bar('possible', top(earliest) + head, top(latest)));
   if (latest < store.index) parts.push(bar('certain', top(latest) + (earliest < latest ? 0 : head), top(store.index)));
-  else if (earliest === latest) parts.push(bar('certain', top(latest) + 2, top(latest) + 16)); // it came and left between the same rows
+  else if (earliest === latest) parts.push(bar('certain', top(latest) + head, layout.middle(store))); // it came and left between the same rows
   return svg('g', { class: 'wait', 'data-earliest': earliest, 'data-latest': latest, 'data-seen': store.index }, ...parts);
 }
 

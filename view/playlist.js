@@ -47,7 +47,7 @@ function addToList(before = taught.list.length) {
   playlist.at = isThere ? at : before;
   drawList();
   const steps = isUnstepped() ? ' No choices to step.' : '';
-  sayListed(`${isThere ? 'It is there already, as' : 'Added as'} ${playlist.at + 1}: ${shortName(one)}.${steps}${taught.list === playlist.saved ? '' : UNSAVED}`);
+  sayListed(`${isThere ? 'It is there already, as' : 'Added as'} ${playlist.at + 1}: ${one.name}.${steps}${taught.list === playlist.saved ? '' : UNSAVED}`);
   byId('list-part').scrollIntoView({ block: 'nearest' });
   if (currentCommand() === 'why' && !isListed('run')) document.querySelector('#way-back .listed').append(' ', listButton({ 'data-add-run': '', class: 'main' }, 'Add the run too'));
 }
@@ -72,8 +72,6 @@ function updateListed() {
   drawList();
   sayListed(`It is ${playlist.at + 1} of ${taught.list.length} now.`);
 }
-
-const shortName = entry => ownNameOf(entry) || entry.name.replace(/: (.*)/, ' ($1)');
 
 function sayListed(sentence) {
   playlist.said = sentence === '' ? null : currentAddress();
@@ -210,6 +208,7 @@ function drawOfList() {
   sayList();
   document.querySelectorAll('[data-lecture]').forEach(nameLecture);
   byId('save-exercises').hidden = list.length < 2;
+  for (const button of document.querySelectorAll('[data-save=page]')) putText(button, `Save ${list.length < 2 ? '' : 'the lecture '}as a page`);
   drawBar();
   followShown();
 }
@@ -219,7 +218,7 @@ const manyEntries = ({ length }) => `${length} ${length === 1 ? 'entry' : 'entri
 /** Over the list what is in it, below it whether it is saved. */
 function sayList() {
   const { list } = taught;
-  putText(byId('list-said'), `Lecture: ${byId('list-part').open ? manyEntries(list) : list.map((each, at) => `${at + 1} ${shortName(each)}`).join(' · ')}`);
+  putText(byId('list-said'), `Lecture: ${byId('list-part').open ? manyEntries(list) : list.map((each, at) => `${at + 1} ${each.name}`).join(' · ')}`);
   putText(byId('list-kept'), list === playlist.saved ? 'Saved. After a change save it again:' : 'Closing this tab loses the lecture:');
 }
 

@@ -108,10 +108,10 @@ const TRACKS = { row: 1e4, zone: 1e6 };
 
 /** Which gutter each edge goes through, and its rank there from the left: what goes past other cores is nearer to its box than what goes between these two, and
  * nearest is what turns off first. Two entries for each edge. */
-function tracksWanted(edges, far, ports) {
+function tracksWanted({ far, isNarrow }, edges, ports) {
   return edges.flatMap((edge, at) => {
     const [from, to] = lanesOf(edge);
-    if (far[at] === null) return [from === to ? {} : { gutter: Math.min(from, to), rank: 0 }, {}];
+    if (far[at] === null) return [from === to ? {} : { gutter: Math.min(from, to), rank: isNarrow ? 0 : from - to }, {}]; // each turns near its start
     return [edge.from, edge.to].map(eventOf).map(({ core, place }, end) => {
       const isAtLeft = from < to === (end === 0), y = ports[at][end], away = place - far[at].row - 0.5, near = TRACKS.row * Math.abs(away) + (away > 0 ? y : -y);
       return isAtLeft ? { gutter: core, rank: near - TRACKS.zone } : { gutter: core - 1, rank: TRACKS.zone - near };
@@ -121,7 +121,7 @@ function tracksWanted(edges, far, ports) {
 
 /** How far from a gutter's left end each edge goes down or up there: apart from others, and from the ways within a core. Two entries for each edge. */
 function tracksOf(layout, edges, ports, own) {
-  const wanted = tracksWanted(edges, layout.far, ports), ranks = wanted.map(({ rank }) => rank);
+  const wanted = tracksWanted(layout, edges, ports), ranks = wanted.map(({ rank }) => rank);
   const owners = new Set(edges.map((edge, at) => `${lanesOf(edge)[0]} ${own[at].side}`));
   const inset = (core, side) => (owners.has(`${core} ${side}`) ? 0.75 * ROUTES.bow * layout.side + ROUTES.beside : ROUTES.inset);
   return amongEquals(wanted.map(({ gutter }) => gutter), ranks).map(({ number, of }, at) => {

@@ -36,14 +36,14 @@ function filterStates(sheet) {
 /** Compares two cells: numbers as numbers. */
 function compareCells(one, other) {
   const [a, b] = [one, other].map(cell => cell.textContent);
-  return /^\d+$/.test(a) && /^\d+$/.test(b) ? Number(a) - Number(b) : a < b ? -1 : a > b ? 1 : 0;
+  return a - b || (a < b ? -1 : Number(a > b));
 }
 
-/** Sorts a table by a column; by the same column again, the other way around. */
+/** Sorts a table by a column; by the same again, the other way. */
 function sortBy(title) {
-  const head = title.closest('th'), body = head.closest('table').tBodies[0], way = head.getAttribute('aria-sort') === 'ascending' ? -1 : 1;
-  for (const other of head.parentElement.cells) other.removeAttribute('aria-sort');
-  head.setAttribute('aria-sort', way === 1 ? 'ascending' : 'descending');
+  const head = title.closest('th'), body = head.closest('table').tBodies[0], way = head.ariaSort === 'ascending' ? -1 : 1;
+  for (const other of head.parentElement.cells) other.ariaSort = null;
+  head.ariaSort = way === 1 ? 'ascending' : 'descending';
   body.append(...[...body.rows].sort((one, other) => way * compareCells(one.cells[head.cellIndex], other.cells[head.cellIndex])));
   if (body.rows.length > 1) filterStates(head.closest('.states-sheet'));
 }
@@ -72,7 +72,7 @@ function placesNote() {
   return [html('p', { class: `small faint${places ? ' ways-said' : ''}` }, said)];
 }
 
-/** Says that a run of the table has other store buffers, where one has no room in one's own. */
+/** Says that runs of the table have other store buffers, where yours have no room. */
 function depthNote({ states, depth }) {
   const { options } = readSettings('run');
   if (options === undefined || options.depth === depth) return [];
@@ -108,7 +108,7 @@ function statesSheet(outcomes, sequential, truths) {
   const isAlone = sequential !== null && newStates(outcomes, sequential).includes(true);
   const words = sequential ? [html('p', { class: 'small faint alone-said' }, `${isAlone ? '“TSO alone”: it needs store buffers. ' : ''}SC is sequential consistency: no store buffers.`)] : [];
   const key = html('p', { class: 'small faint key' }, keySaid(Object.keys(outcomes.states[0].values)));
-  const programs = html('p', { class: 'programs' }, ...programLines(told));
+  const programs = html('p', { class: 'programs' }, ...programLines(asWritten(inputOf('outcomes'), told)));
   programs.querySelectorAll('code').forEach((code, at) => lines.length > 0 && setAll(code, { 'data-c': lines.flat()[at] }));
   const isBroad = Object.keys(outcomes.states[0].values).length > FEW_COLUMNS || programs.childElementCount > MANY_CORES;
   const sheet = html('div', { class: isBroad ? 'states-sheet broad' : 'states-sheet' }, programs,
@@ -124,8 +124,7 @@ function markShownState(choices) {
     const row = button.closest('tr'), isShown = button.dataset.choices === choices;
     if (!row) continue;
     row.classList.toggle('shown', isShown);
-    if (isShown) row.setAttribute('aria-current', 'true');
-    else row.removeAttribute('aria-current');
+    row.ariaCurrent = isShown ? 'true' : null;
   }
 }
 

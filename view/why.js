@@ -60,6 +60,7 @@ function showReason(answer, test, beside) {
   showAnswer(answer);
   foldReport(answer);
   Object.assign(sheet, { told, programs, test, cycle: null, events: null, answered: [answer, test, beside], width: innerWidth });
+  showQuestion(test); // no picture repeats it
   const isTso = told.model === 'tso', can = told.answer !== 'never';
   if (!can && isTso) possible.refuted = test;
   if (can && isTso && told.asked?.truth === true) possible.found = test;
@@ -75,7 +76,6 @@ function showReason(answer, test, beside) {
   const [first, second] = told.answer === 'never' ? cyclesOf(told.steps) : [];
   if (first) drawCycle(first.at);
   if (!second) section.querySelector('[data-cycle]')?.remove(); // the one that is drawn
-  showQuestion(test);
   showFromBehind();
   const isDrawn = section.querySelector('figure') !== null, terms = html('p', { class: 'terms' }, html('strong', {}, 'In litmus terms: '), reasonSentence(told, proposition));
   if (!isDrawn) section.querySelector('[role=status]').after(html('p', { class: 'small faint' }, codesSaid(section.textContent), readAsSaid(test)));

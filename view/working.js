@@ -1,6 +1,6 @@
 'use strict';
 
-// Long work in sight: that it goes on, for how long, how far it came, and how one stops it.
+// Long work in sight: how long it goes on, how far it came, and how one stops it.
 
 /** When the work began, what had the focus then, its clock, and what it told last, null before. */
 const working = { since: 0, asker: null, clock: null, progress: null };

@@ -65,7 +65,7 @@ def signs_row(bench):
     """A run that shows that it can be says so, and nothing of other runs; the condition in words has what is written as its meaning."""
     bench.open_fresh()
     faults = []
-    for words, wanted in (("0s 1s 0s 1s 0d 1d", "This run shows that it can be. Both loads read 0: true."),
+    for words, wanted in (("0s 1s 0s 1s 0d 1d", "This run shows that it can be: both loads read 0."),
                           ("0s 0d 0s 1s 1d 1s", "This run doesn't show the outcome that is asked for. This tells nothing about other runs. Both loads read 0: false.")):
         bench.fill("choices", words)
         bench.value("DRIVES.last()")

@@ -122,7 +122,7 @@ def old_browsers_row(bench):
         added = bench.window.call("Page.addScriptToEvaluateOnNewDocument", source=lacking)["identifier"]
         try:
             bench.window.open(bench.page.address)
-            bench.wait("byId('bench').hidden")
+            bench.wait("byId('bench').hidden && document.querySelector('%s').innerText" % shown)
             faults += [] if "can't open the machine" in bench.value("document.querySelector('%s').innerText" % shown) else [lacking + ": it says nothing"]
             bench.value("showText(%s)" % json.dumps(line))
             faults += differs(lacking + ": drawn", bench.page.is_drawn(), True)

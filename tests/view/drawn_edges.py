@@ -258,6 +258,12 @@ LED = """(() => {
   return [bottom <= innerHeight && top >= 0, parseFloat(getComputedStyle(document.querySelector('.reason .edge text')).fontSize) * chips[0].height / ROUTES.chip >= 11, isClear];
 })()"""
 
+BESIDE = """(() => {
+  const boxOf = each => each.getBoundingClientRect(), [figure, bar, passing] = ['figure', '.stepping', '.passing'].map(each => boxOf(document.querySelector('.reason ' + each)));
+  const lines = [...document.querySelectorAll('.reason .lane')].map(each => boxOf(each).right), chips = [...document.querySelectorAll('.reason .chip')].map(boxOf);
+  return [bar.right <= figure.left && bar.top < figure.bottom, !chips.some(({ left, right }) => lines.some(line => left < line && line < right)), passing.bottom <= innerHeight];
+})()"""
+
 
 def taught_row(bench):
     """In a lesson the picture of why is in sight, on a phone by \u201cNext arrow\u201d; there its letters are large enough, and apart. An arrow is marked while the list has the focus, and no longer; what is
@@ -271,6 +277,10 @@ def taught_row(bench):
         bench.value("document.querySelector('[data-edges=next]').click()")
         faults += differs("at %d" % width, bench.value(LED), [True, True, True])
     bench.window.resize(1280, 800)
+    bench.open_fresh(width=1280)
+    bench.value("beginLesson('fences', 23); showInLesson()")
+    bench.wait("!bench.task && document.querySelector('.reason figure')")
+    faults += differs("where it can be: words beside it, no letters on a line, all in sight", bench.value(BESIDE), [True, True, True])
     bench.open_fresh(width=1280)
     bench.value("askWhy()")
     bench.wait("!bench.task && document.querySelector('.reason .edges')")

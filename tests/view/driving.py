@@ -72,7 +72,7 @@ def begins_row(bench, folder):
     for count in range(1, 7):
         bench.window.click("[data-move=forward]")
         faults += faults_at(bench, trace, count)
-    said = "This run shows that it can be. Both loads read 0: true."
+    said = "This run shows that it can be: both loads read 0."
     faults += [] if said in bench.text("#verdict") else ["the verdict: " + bench.text("#verdict")]
     faults += differs("at its end", bench.value("[byId('at-end').hidden, document.querySelector('[data-move=forward]').disabled, byId('play').disabled]"), [False, True, True])
     return faults + safety(bench)

@@ -53,11 +53,16 @@ def task_row(bench):
 
 
 def four_row(bench, folder):
-    """Four cores stand in one row at 1,920 pixels."""
+    """Four cores stand in one row at 1,920 pixels, and eight at 1,280, with memory and the lanes of its order in sight."""
     bench.load(FOUR, "", {}, 1920)
     tops = bench.value("[...document.querySelectorAll('.core')].map(each => Math.round(each.getBoundingClientRect().top))")
     bench.window.screenshot(os.path.join(folder, "four-cores-1920.png"), whole=False)
-    return ([] if len(tops) == 4 and len(set(tops)) == 1 else ["their tops are %s" % tops]) + safety(bench)
+    faults = [] if len(tops) == 4 and len(set(tops)) == 1 else ["their tops are %s" % tops]
+    bench.open_fresh(width=1280)
+    bench.window.resize(1280, 800)
+    bench.value("byId('about').open = false, takeText('X86 eight\\n{ }\\n' + ['P%', 'MOV [a%],$1', 'MOV EAX,[a0]'].map(cell => ` ${[0, 1, 2, 3, 4, 5, 6, 7].map(core => cell.replace('%', core)).join(' | ')} ;\\n`).join(''))")
+    seen = "[new Set([...document.querySelectorAll('.core')].map(each => each.getBoundingClientRect().top)).size, ['.below', '#names'].map(each => document.querySelector(each).getBoundingClientRect().bottom < innerHeight)]"
+    return faults + differs("eight", bench.value(seen), [1, [True, True]]) + safety(bench)
 
 
 def folds_row(bench):

@@ -89,6 +89,20 @@ def four_in_sight_row(bench):
     return faults + safety(bench)
 
 
+def letters_row(bench):
+    """While keys lead, a lecture says below four protocols what the states' letters mean, in the place of the row that comes with the mouse; nothing scrolls."""
+    faults = []
+    for width, height in ((1920, 1080), (1280, 720), (1024, 768)):
+        bench.open_fresh(width=width)
+        bench.window.resize(width, height)
+        bench.value("putLecture(true); loadText('false-sharing.litmus'); putBeside(JSON.stringify(ABREAST)); putLed(true)")
+        style = "getComputedStyle(byId('driving'), '::after')"
+        found = bench.value("[%s.content.includes('O owned'), %s.height.split('p')[0] < byId('driving').offsetHeight, getComputedStyle(byId('ask-why')).opacity, document.documentElement.scrollHeight]" % (style, style))
+        faults += differs("at %d by %d" % (width, height), found, [True, True, "0", height])
+        faults += differs("with the mouse", bench.value("putLed(false), [%s.content, getComputedStyle(byId('ask-why')).opacity]" % style), ["none", "1"])
+    return faults + safety(bench)
+
+
 def renamed_row(bench):
     """An entry of a list gets a name of one's own, by Enter or by leaving it, which stays; what isn't in the list is said to be none of it."""
     enter = "new KeyboardEvent('keydown', { key: '%s', bubbles: true })"
@@ -186,7 +200,7 @@ def rows(page, _):
         ("a clicker that leads", lambda: led_row(bench)),
         ("a press on the ground of a lecture", lambda: unpressed_row(bench)),
         ("a clicker all the way back", lambda: reverse_row(bench)),
-        ("buffers in a lecture of 1024 by 768", lambda: narrow_row(bench)),
+        ("buffers in a lecture of 1024 by 768", lambda: narrow_row(bench)), ("letters below four protocols", lambda: letters_row(bench)),
         ("a name in a list", lambda: renamed_row(bench)),
         ("outcomes and their question", lambda: outcomes_asked_row(bench)),
         ("a lecture fits its window", lambda: fitted_row(bench)),

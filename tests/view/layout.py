@@ -293,18 +293,38 @@ def one_word_row(bench):
 
 
 def own_question_row(bench):
-    """The answers of an exercise stand behind the condition where the question is the teacher's own, and else behind the question."""
+    """The answers of an exercise stand behind its question, which is asked alone; behind the condition where no yes or no answers the question."""
     faults = []
-    for asked, place in (("Is one fence enough?", "task-said"), (bench.value("questionOf(%s)" % json.dumps(test_of("SB"))), "exercise-asked")):
+    for asked, place in (("Is one fence enough?", "exercise-asked"), ("Two cores: why so?", "task-said"), (bench.value("questionOf(%s)" % json.dumps(test_of("SB"))), "exercise-asked")):
         bench.open_fresh(urllib.parse.urlencode({"test": test_of("SB"), "exercise": asked}))
         found = bench.value("[byId('exercise-answers').previousElementSibling.id, byId('exercise-asked').textContent, byId('exercise-thought').checkVisibility()]")
         faults += differs("behind what", found, [place, "Exercise: " + asked, True])
     return faults + safety(bench)
 
 
+def kept_question_row(bench):
+    """A teacher's own question is kept for its test: in the form that opens again, in what a student sees, and in a list of exercises."""
+    bench.open_fresh()
+    bench.value("saveFile = () => {}; window.opened = []; window.open = address => opened.push(address); SAVES.exercise(); byId('exercise-said').value = 'Can it?'; byId('exercise-form').requestSubmit()")
+    bench.wait("document.querySelector('.page-saved [data-see]')")
+    press(bench, ".page-saved [data-see]")
+    asked = "new URLSearchParams(%s).get('exercise')"
+    found = bench.value("[%s, %s, (SAVES.exercise(), byId('exercise-said').value), (loadText('MP.litmus'), SAVES.exercise(), byId('exercise-said').value)]"
+        % (asked % "opened[0].split('#')[1]", asked % "exerciseAt(currentAddress())"))
+    return differs("asked", found, ["Can it?"] * 3 + [bench.value("proposedQuestion(byId('test').value)")]) + safety(bench)
+
+
+def alike_bars_row(bench):
+    """The bars of stores that entered before any row begin at one height, also of one that drained into the first row."""
+    bench.open_fresh()
+    bench.value("loadText('store-buffering-fenced.litmus'); goTo(99)")
+    found = bench.value("[...document.querySelectorAll('#frame .wait[data-latest=\"0\"] .certain')].map(bar => bar.getAttribute('y'))")
+    return differs("begin", [len(found), len(set(found))], [2, 1]) + safety(bench)
+
+
 def open_exercise_row(bench):
     """An exercise doesn't tell whether it can be done after an answer, until a run does it, which judges the answer."""
-    bench.open_fresh(urllib.parse.urlencode({"test": test_of("SB"), "exercise": "Is it so?"}))
+    bench.open_fresh(urllib.parse.urlencode({"test": test_of("SB"), "exercise": "How so?"}))
     bench.wait("possible.can === true")
     press(bench, "[data-thought=cannot]")
     titles = [bench.text("#task-said")]
@@ -353,7 +373,7 @@ def rows(page, folder):
     bench = Driver(page)
     return [
         ("words of a lecture", lambda: hall_words_row(bench)), ("one word a line", lambda: one_word_row(bench)),
-        ("an exercise with one's own question", lambda: own_question_row(bench)), ("an exercise that isn't solved", lambda: open_exercise_row(bench)), ("play without stalls", lambda: play_row(bench)),
+        ("an exercise with one's own question", lambda: own_question_row(bench)), ("an exercise's question is kept", lambda: kept_question_row(bench)), ("bars begin alike", lambda: alike_bars_row(bench)), ("an exercise that isn't solved", lambda: open_exercise_row(bench)), ("play without stalls", lambda: play_row(bench)),
         ("exercises of a list", lambda: exercises_row(bench, folder)),
         ("the ring at the focus", lambda: focus_ring_row(bench)), ("a picture that a lesson speaks of", lambda: looked_row(bench)),
         ("names of lanes below the bar", lambda: stuck_head_row(bench)), ("a lecture that stands still", lambda: still_lecture_row(bench)),

@@ -25,7 +25,7 @@ def guided_row(bench):
     press(bench, "[data-choice='1s']")
     faults += differs("the next step's own choice, and its question by itself", bench.value("[lesson.at, lesson.isDone, drive.words, byId('sentence').textContent]"), [4, False, ["0s", "1s"], ""])
     first = "[byId('lesson-now').textContent, getComputedStyle(document.querySelector('[data-choice=\"0d\"] code')).visibility]"
-    faults += differs("what the buttons do, and what comes first", bench.value(first), ["Answer first.", "visible"])
+    faults += differs("what the buttons do, and what comes first", bench.value(first), ["Answer first: press 0 or 1.", "visible"])
     press(bench, "[data-choice='0s']")
     faults += differs("it is said once", bench.value(first), ["", "visible"])
     told = bench.value("(box => [drive.count, box.textContent, box.matches('.wrong')])(byId('lesson-after'))")

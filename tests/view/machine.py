@@ -96,6 +96,11 @@ def made_row(bench):
     return faults + safety(bench)
 
 
+def begun(hint):
+    """A hint as a sentence begins."""
+    return re.sub("^hint: .", lambda found: found[0][-1].upper(), hint)
+
+
 def refused_row(bench, folder):
     """A refused line is marked while one types, with the hint beside; a word of the choices and a line of an order too."""
     bench.open()
@@ -104,7 +109,7 @@ def refused_row(bench, folder):
     bench.fill("test", damaged)
     _, line, hint = bench.program(damaged, "run")
     number = re.match(r"Refused test line (\d+) ", line).group(1)
-    faults = differs("the refusal", bench.text("#said"), line.strip()) + differs("the hint", bench.text("#hint"), hint.strip())
+    faults = differs("the refusal", bench.text("#said"), line.strip()) + differs("the hint", bench.text("#hint"), begun(hint.strip()))
     faults += differs("the mark", bench.text("#test-lines .refused").strip(), "▶" + number)
     faults += differs("the band", (bench.value("byId('test-band').hidden"), bench.value("byId('test-band').dataset.line")), (False, number))
     faults += differs("invalid", bench.value("byId('test').getAttribute('aria-invalid')"), "true")
@@ -118,17 +123,17 @@ def refused_row(bench, folder):
     faults += differs("a mark where all is well", bench.value("document.querySelector('.refused') === null && byId('test-band').hidden"), True)
     bench.fill("choices", "0s 9s 1s")
     _, line, hint = bench.program(test + DIVIDING_LINE + "0s 9s 1s", "run")
-    faults += differs("choices", [bench.text("#said"), bench.text("#plain"), bench.text("#hint")], [line.strip(), "Choice 2, 9s: there is no core 9.", bench.said(hint)])
+    faults += differs("choices", [bench.text("#said"), bench.text("#plain"), bench.text("#hint")], [line.strip(), "Choice 2, 9s: there is no core 9.", begun(bench.said(hint))])
     bench.choose("check")
     order = "Order\nP0:1 R y=0\nP0:7 X\nEndorder 2\n"
     bench.fill("given", order)
     _, line, hint = bench.program(test + DIVIDING_LINE + order, "check")
     number = re.match(r"Refused order line (\d+) ", line).group(1)
-    faults += differs("order", [bench.text("#said"), bench.text("#hint"), bench.text("#given-lines .refused").strip()], [line.strip(), bench.said(hint), "▶" + number])
+    faults += differs("order", [bench.text("#said"), bench.text("#hint"), bench.text("#given-lines .refused").strip()], [line.strip(), begun(bench.said(hint)), "▶" + number])
     bench.choose("run")
     bench.fill("choices", "0s 0s")
     _, line, hint = bench.program(test + DIVIDING_LINE + "0s 0s", "run")
-    faults += differs("unfinished", [bench.text("#report"), bench.text("#hint")], [line, bench.said(hint)])
+    faults += differs("unfinished", [bench.text("#report"), bench.text("#hint")], [line, begun(bench.said(hint))])
     return faults + safety(bench)
 
 
@@ -267,7 +272,7 @@ def long_run_row(bench):
         bench.wait("!bench.task && byId('report').textContent")
         status, said, hint = bench.program(test + DIVIDING_LINE + choices, "run")
         faults += differs("the report", bench.text("#report"), said) + differs("drawn", bench.page.is_drawn(), status == 0)
-        faults += differs("the hint", bench.text("#hint"), bench.said(hint))
+        faults += differs("the hint", bench.text("#hint"), begun(bench.said(hint)))
         is_few = status == 0  # of a run that ends, few choices are used
         faults += differs("steps are shown, or the page says why not", bench.value("bench.tracing === null || [drive.isOn, byId('no-steps').hidden]"), [is_few, is_few])
     return faults + safety(bench)

@@ -134,7 +134,7 @@ def exercise_row(bench, folder):
     faults += differs("asked at first", asked, "Can both loads read 0, past the fences?")
     bench.value("byId('test-part').open = true")
     in_sight = "['find-outcomes', 'ask-why', 'library', 'exercise'].map(id => byId(id).getClientRects().length > 0)"
-    said = bench.value("[byId('exercise-asked').textContent, byId('task-said').textContent.includes('Can this be done?'), /^(TSO|SC|Seen)=/m.test(withoutVerdicts('TSO=allowed\\nSeen=2\\n') + byId('test').value)]")
+    said = bench.value("[byId('exercise-asked').textContent, byId('task').hidden, /^(TSO|SC|Seen)=/m.test(withoutVerdicts('TSO=allowed\\nSeen=2\\n') + byId('test').value)]")
     faults += differs("said", said, ["Exercise: Is it <so>?", True, False]) + differs("before an answer", bench.value(in_sight), [False, False, False, True])
     press(bench, "[data-thought=cannot]")
     bench.wait("location.hash.includes('thought=cannot')")
@@ -241,7 +241,7 @@ def abreast_row(bench, folder):
     marks = bench.value("[...document.querySelectorAll('.machine')].map(each => [each.querySelectorAll('.cache .differs').length, each.querySelector('.memory').matches('.differs')])")
     faults += differs("marked", marks, [[0, False], [0, False], [1, True], [1, True]])
     faults += [] if "Done. Under MSI: 4 misses, " in bench.text("#task-after") else ["the task says " + bench.text("#task-after")]
-    faults += differs("why at the end, and of which", [bench.text("#sentence").split(" 4 of")[0], bench.text("#sentence").rsplit(". ", 1)[1]], ["1s: P1 read y=1 from P0's cache. Under MSI and MESI: P0 sent its copy to memory. Under MOESI and MOSI: P0 keeps the line as its owner; memory keeps the old words.", "4 of 4 accesses missed: x and y share a line, which 3 of them took from the other core."])
+    faults += differs("why at the end, and of which", [bench.text("#sentence").split(" 4 of")[0], bench.text("#sentence").rsplit(". ", 1)[1]], ["1s: P1 read y=1 from P0's cache. Under MSI and MESI: P0 sent its copy to memory. Under MOESI and MOSI: P0 keeps the line as its owner; memory keeps the old words.", "4 of 4 accesses missed: x and y share a line, and 3 of them took it from the other core."])
     bench.window.screenshot(os.path.join(folder, "abreast.png"))
     return faults + bench.value(OVERHANGING) + safety(bench)
 

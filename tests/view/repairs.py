@@ -318,7 +318,7 @@ def listing_row(bench):
         press(bench, "#write-so")
         faults += differs("written", bench.value("byId('test').value"), written)
         faults += [] if said in bench.text(".writing .noticed") else ["it says " + bench.text(".writing .noticed")]
-    said = "Line 8 (testl) and line 9 (je): there are no jumps, compares or calls here. Without such lines this can be a test, of the one way that takes no jump."
+    said = "Line 8 (testl) and line 9 (je): there are no jumps, compares, calls or flags (set) here. Without such lines this can be a test, of the one way that takes no jump."
     bench.fill("test", DISASSEMBLED.replace("<y>", "<_init+0x4>"))
     said_of_names = "This listing has no names of locations: paste what gcc -S writes, or objdump -dr of an object file."
     faults += differs("without names", bench.value("[byId('write-so').hidden, byId('plain').textContent, byId('test-band').dataset.line]"), [True, said_of_names, "4"])
