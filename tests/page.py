@@ -5,6 +5,7 @@
 
 - view/ is what it has to be: texts that are the examples', its own parts as texts, scripts of fewer than 400 lines that the page names, its policy and no
   other, no script or style in the page itself, at most 1.3 MB with the module.
+- Each script of a saved page, which has no comments and little room, has the syntax tree of the page's own (tests/same_trees.js).
 - What the page makes of the steps of a trace is what the order of the same run tells: tests/view/histories.js.
 - The module that ships, in view/module.js, answers in Node. Where it was made of the sources that stand, it is asked each row of
   tests/run_rows.py but those of the command line itself, and N inputs made at random (300): output, hint and status are the program's,
@@ -36,6 +37,7 @@ from checks.page.module_answers import Served
 
 VIEW = os.path.join(TOP, "view")
 HISTORIES = os.path.join(TESTS, "view", "histories.js")
+SAME_TREES = os.path.join(TESTS, "same_trees.js")
 MODULE = os.path.join("crates", "page_exports", "out", "page.wasm")
 WIDE = os.path.join("crates", "page_exports", "out", "page.wide.wasm")
 
@@ -106,6 +108,17 @@ def faults_of_grammar():
     names = sorted(name for name in os.listdir(VIEW) if name.endswith(".js"))
     asked = [(name, subprocess.run(["node", "--check", os.path.join(VIEW, name)], capture_output=True, text=True)) for name in names]
     return [name + " is no script: " + done.stderr.strip()[-200:] for name, done in asked if done.returncode != 0]
+
+
+def faults_of_trees():
+    """Each script of a saved page has the syntax tree of the page's own."""
+    _, whole = held(content(VIEW, "whole.js"))
+    pairs = {name: [content(VIEW, name), text] for name, text in whole["scripts"].items()}
+    done = shutil.which("node") and subprocess.run([SAME_TREES], input=json.dumps(pairs), capture_output=True, text=True)
+    if done is None or done.returncode == CANNOT:
+        print("left out, whether a saved page's scripts say what the page's own do: Node or its parser isn't there")
+        return []
+    return [name + " says another thing in a saved page" for name in done.stdout.split()] + ([done.stderr.strip()[-200:]] if done.returncode != 0 else [])
 
 
 def faults_of_size(script=None):
@@ -266,7 +279,7 @@ def main():
     tally = judging.Tally()
     tally.add("view/", [("texts.js", faults_of_made("texts.js", "page_texts")), ("whole.js", faults_of_made("whole.js", "page_whole")),
                         ("the policy", faults_of_policy()), ("the scripts", faults_of_scripts()),
-                        ("their grammar", faults_of_grammar()), ("its size", faults_of_size()), ("histories of steps", faults_of_histories(given.program))])
+                        ("their grammar", faults_of_grammar()), ("what a saved page's say", faults_of_trees()), ("its size", faults_of_size()), ("histories of steps", faults_of_histories(given.program))])
     if shutil.which("node") is None:
         print("left out, what the page's modules answer: node isn't there: apt-get install -y nodejs")
         return tally.end()

@@ -8,7 +8,7 @@ const LONGEST_ADDRESS = 8000;
 const TEST_ADDRESS = /^test=/;
 
 /** One's own run, from which an answer of its test was asked; else null. */
-const runBehind = () => (currentCommand() !== 'run' && ownRun.kept?.test === byId('test').value ? ownRun.kept : null);
+const runBehind = () => (currentCommand() !== 'run' && ownRun.kept?.test === testNow() ? ownRun.kept : null);
 
 /** The choices that an address has. */
 const choicesOfAddress = () => runBehind()?.choices ?? choicesText();
@@ -23,14 +23,13 @@ function choicesToTell() {
 /** What stands after `#` in the address of what is written now. An answer's has the run that it was asked from, which it may explain. */
 function currentAddress(choices = choicesOfAddress()) {
   const command = currentCommand();
-  const pairs = [['test', byId('test').value], ['choices', choices], ['order', byId('given').value], ['command', command]];
+  const pairs = [['test', testNow()], ['choices', choices], ['order', byId('given').value], ['command', command]];
   const told = pairs.filter(([name, value]) => name === 'test' || (name === 'command' ? value !== 'run' : value !== ''));
-  const embedded = document.documentElement.classList.contains('embedded') ? [['embed', '1']] : [];
+  const embedded = ROOT.classList.contains('embedded') ? [['embed', '1']] : [];
   return new URLSearchParams([...told, ...changedSettings().filter(([name]) => command !== 'why' || [...SETTINGS.run, ...SETTINGS.why].includes(name)), ...driven(), ...exerciseToKeep(), ...embedded]).toString();
 }
 
-/** Of a machine that is driven how many of the choices are made, where not all are, what is beside it, whether somebody wants the caches
- * in sight, and the step of a lesson. */
+/** Of a driven machine how many choices are made, where not all are, what is beside it, whether caches are wanted, and the step of a lesson. */
 function driven() {
   const behind = runBehind();
   if (behind !== null && behind.count < countChoices(behind.choices)) return [['at', String(behind.count)]];
@@ -39,7 +38,7 @@ function driven() {
     ...(drive.count < drive.words.length ? [['at', String(drive.count)]] : []),
     ...(drive.beside === null ? [] : [['beside', besideName(drive.beside)]]),
     ...(cachesView.wanted === null ? [] : [['caches', cachesView.wanted ? '1' : '0']]),
-    ...(lesson.told === null ? [] : [['lesson', lesson.told.name], ['step', String(lesson.at)]]),
+    ...(!isLesson() ? [] : [['lesson', lesson.told.name], ['step', String(lesson.at)]]),
   ];
 }
 
@@ -77,31 +76,18 @@ function keepAddress() {
   Object.assign(kept, { command: currentCommand(), isNew: false });
 }
 
-/** What the address of a page that is a file is good for. */
-const OF_A_FILE = 'This page is a file here, so the link leads here on this computer alone. For others press Save as a page, and send them that file.';
-
-const NEAR_LINK = '#copied, .tools .page-saved'; // where it is said
-
-/** Copies the address of what is shown. */
+/** Copies the address of what is shown. Of a page that is a file it is said what that is good for, with the button that makes a file for others. */
 async function copyLink() {
-  const address = `${location.href.split('#')[0]}#${currentAddress(choicesToTell())}`;
-  try {
-    await navigator.clipboard.writeText(address);
-    sayDone(NEAR_LINK, location.protocol === 'file:' ? `Copied. ${OF_A_FILE}` : 'Copied.');
-  } catch {
-    sayDone(NEAR_LINK, 'This browser doesn\'t let the page copy: copy the address from the address bar.');
-  }
+  const address = `${location.href.split('#')[0]}#${currentAddress(choicesToTell())}`, isFile = location.protocol === 'file:';
+  const said = isFile ? 'Copied. This page is a file here, so the link works on this computer alone. To send it to others: ' : 'Copied.';
+  const place = await copyText(address, '#copied, .tools .page-saved', said, 'copy the address from the address bar');
+  if (isFile) place?.append(html('button', { class: 'quiet', 'data-save': 'page' }, 'Save as a page'));
 }
 
 /** Copies the line for a shell. */
-async function copyWords() {
-  const isOfFile = currentCommand() !== 'tables';
-  try {
-    await navigator.clipboard.writeText(commandLine(currentCommand()));
-    sayDone('#words-copied', `Copied.${isOfFile ? ` Save the input makes ${inputName(currentCommand())}.` : ''}`);
-  } catch {
-    sayDone('#words-copied', 'This browser doesn\'t let the page copy: mark the line, and copy it.');
-  }
+function copyWords() {
+  const command = currentCommand(), said = command === 'tables' ? '' : ` Save the input makes ${inputName(command)}.`;
+  return copyText(commandLine(command), '#words-copied', `Copied.${said}`, 'mark the line, and copy it');
 }
 
 function drawShare() {
@@ -140,7 +126,7 @@ function openPicture(fragment) {
   } catch (fault) {
     if (!(fault instanceof URIError)) throw fault;
     showText('');
-    byId('message').textContent = 'What stands after # in the address isn\'t a percent-encoded text.';
+    putMessage('What stands after # in the address isn\'t a percent-encoded text.');
   }
 }
 
@@ -157,5 +143,5 @@ function showAddress() {
   else if (bench.tso) {
     openTest(fragment);
     kept.command = currentCommand();
-  } else byId('message').textContent = 'This is the address of a test, and there is no machine here to run it.';
+  } else putMessage('This is the address of a test, and there is no machine here to run it.');
 }

@@ -31,11 +31,8 @@ class Tso {
     this.sizes = [1 << 16, 1 << 10];
   }
 
-  /**
-   * The answer to an input (bytes or a text) under these options, the others having the program's defaults, but that all instructions
-   * are read (an older module reads those of the grammar alone, whatever it is asked): its text, the hint beside it, and the command's exit status; 2 where an option is outside its limits, 5 where memory was refused. Throws
-   * where the module trapped.
-   */
+  /** The answer to an input (bytes or a text) under these options, else the defaults: its text, the hint beside it, the command's exit status (2: an
+   * option is outside its limits, 5: memory was refused). Throws where the module trapped. */
   answer(options, input) {
     const bytes = typeof input === 'string' ? new TextEncoder().encode(input) : input;
     try {
@@ -93,3 +90,5 @@ class Tso {
     return new TextDecoder().decode(new Uint8Array(this.exports.memory.buffer, Number(place), length));
   }
 }
+
+const { good: GOOD, refused: REFUSED, unended: UNENDED } = Tso.STATUS;

@@ -2,18 +2,15 @@
 
 // The bench: what is written goes to the module, and its answer is shown.
 
-/**
- * The module and what it was made of, a long task while it runs, and the answer that is shown; null while a machine is driven on from it.
- * `tracing` is what the module tells of steps: `step`, `trace` alone, or null. `hasLargerSet`: whether it has the larger set of instructions.
- * `told`: what the shown sheet was asked. `took`: milliseconds of the last answer to `why`. `again`: the timer of an answer that comes by
- * itself. `last`: the long command that was asked last.
- */
+/** The module and what it was made of, a long task while it runs, and the answer that is shown (null while a machine is driven on from it).
+ * `tracing`: what the module tells of steps. `told`: what the shown sheet was asked. `took`: milliseconds of the last `why`. `again`: the timer of an
+ * answer that comes by itself. `last`: the last long command. */
 const bench = { tso: null, bytes: null, task: null, answer: null, tracing: null, hasLargerSet: false, told: null, took: Infinity, again: null, last: 'outcomes' };
 
 const LONG = ['outcomes', 'sweep', 'counts', 'why'];
 
 /** The test's name, as its first line has it. */
-const testName = () => /^X86[ \t]+(.*)/.exec(byId('test').value)?.[1].trim() ?? 'test';
+const testName = () => /^X86[ \t]+(.*)/.exec(testNow())?.[1].trim() ?? 'test';
 
 /** From so many choices on a run is made in a worker. */
 const LONG_RUN = 10000;
@@ -38,7 +35,7 @@ function firstChoices(text, most) {
 }
 
 /** What is said where nothing is written: no line is at fault. */
-const NO_TEST = { status: Tso.STATUS.refused, text: '', hint: 'There is no test yet: write one, or take one of the examples.' };
+const NO_TEST = { status: REFUSED, text: '', hint: 'There is no test yet: write one, or take one of the examples.' };
 
 /** Answers what is written: of a long command only whether the test is refused. */
 function answerNow(isAtStart = false) {
@@ -47,7 +44,7 @@ function answerNow(isAtStart = false) {
   const command = currentCommand(), { wrong, options } = showAsked(command);
   if (wrong) byId('test-part').open = true;
   if (wrong) showSaid({ text: '', hint: '' }, wrong);
-  else if (command !== 'tables' && byId('test').value.trim() === '') showAnswer(NO_TEST);
+  else if (command !== 'tables' && testNow().trim() === '') showAnswer(NO_TEST);
   else if (LONG.includes(command)) showRefusalAlone(command);
   else if (command === 'run' && countChoices(choicesText()) > LONG_RUN) begin();
   else if (command === 'run') answerRun(options, isAtStart === true);
@@ -60,18 +57,31 @@ let noticed = '';
 const NOTICES = '#words-copied, #copied, #report-copied, .page-saved';
 
 /** Of some places the one in sight that is nearest to the focus. */
-const nearest = (places, part = document.activeElement) => part
+const nearest = (places, part = focused()) => part
   && ([...part.querySelectorAll(places)].find(each => each.checkVisibility()) ?? nearest(places, part.parentElement));
 
-/** Says what was saved or copied last, at the nearest of these places alone. */
+/** Says what was saved or copied last, at the nearest of these places alone, and answers it. */
 function sayDone(places, said) {
-  const place = nearest(places) ?? document.querySelector(places);
-  for (const notice of document.querySelectorAll(NOTICES)) putText(notice, notice === place ? said : '');
+  const place = nearest(places) ?? query(places);
+  if (place.contains(focused())) place.parentElement.querySelector('#copy-link, [data-copy-link]')?.focus(); // the button in it goes
+  for (const notice of queryAll(NOTICES)) putText(notice, notice === place ? said : '');
+  return place;
+}
+
+/** Copies a text, and says so at the nearest of these places, which it answers; or what one can do, where it can't. */
+async function copyText(text, places, said, otherwise) {
+  try {
+    await navigator.clipboard.writeText(text);
+    return sayDone(places, said);
+  } catch {
+    sayDone(places, `This browser doesn't let the page copy: ${otherwise}.`);
+    return null;
+  }
 }
 
 /** Takes notices away that belong to another test or command. */
 function forgetNotices(command) {
-  const asks = `${command} ${byId('test').value}`;
+  const asks = `${command} ${testNow()}`;
   if (asks === noticed) return;
   noticed = asks;
   sayDone(NOTICES, '');
@@ -80,7 +90,14 @@ function forgetNotices(command) {
 /** Shows the words on the command line that ask the same. */
 function showWordsLine(command) {
   const words = commandLine(command).split(' ');
-  byId('words-line').replaceChildren(...words.flatMap(word => [html('span', { class: 'unbroken' }, word), ' ']));
+  fill(byId('words-line'), ...words.flatMap(word => [html('span', 'unbroken', word), ' ']));
+}
+
+/** Shows two questions under the test: in the place of one that is asked stands the main button. */
+function showAsks(command) {
+  byId('asks-here').hidden = !ASKED_BY_BUTTONS.includes(command);
+  for (const button of byId('asks-here').children) button.hidden = command !== 'run' && [command, undefined].includes(button.dataset.ask);
+  putClass(byId('begin'), 'last', command === 'why');
 }
 
 /** Shows what is asked. Answers the settings as they are read. */
@@ -96,7 +113,7 @@ function showAsked(command) {
   forgetNotices(command);
   showLeft();
   showExercise();
-  byId('asks-here').hidden = command !== 'run';
+  showAsks(command);
   byId('begin').disabled = settings.wrong !== undefined;
   return settings;
 }
@@ -105,7 +122,7 @@ function showAsked(command) {
 function asked(options, input) {
   try {
     const answer = bench.tso.answer(options, input);
-    return (answer.status !== Tso.STATUS.refused && refusalOfBare(input)) || answer;
+    return (answer.status !== REFUSED && refusalOfBare(input)) || answer;
   } catch (fault) {
     return { status: null, text: '', hint: trapSentence(fault) };
   }
@@ -115,13 +132,13 @@ const trapSentence = fault => `The module stopped before it gave an answer (${fa
 
 function answerRun(options, isAtStart) {
   const input = inputOf('run'), answer = asked(options, input), wasDrawn = shown.run !== null || drive.isOn;
-  const isRun = answer.status === Tso.STATUS.good || answer.status === Tso.STATUS.unended;
+  const isRun = answer.status === GOOD || answer.status === UNENDED;
   showAnswer(answer);
   if (isRun && showDriven(options, input, isAtStart)) {
     if (!wasDrawn || isAtStart) byId('report-part').open = false;
     return isAtStart ? showSaid({ hint: '' }, '') : undefined;
   }
-  const isDrawn = answer.status === Tso.STATUS.good;
+  const isDrawn = answer.status === GOOD;
   if (isDrawn !== wasDrawn) byId('report-part').open = !isDrawn; // the picture says the same
   if (isDrawn) showLine(asked({ ...options, json: true }, input).text.trim());
 }
@@ -137,8 +154,9 @@ function reportNow() {
   return bench.answer;
 }
 
-/** Shows the answer in the form that is wanted, of a driven run anew. */
+/** Shows the answer in the form that is wanted, of a driven run anew, and no old one during a search. */
 function showReport() {
+  if (bench.task !== null) return putText(byId('report'), 'Searching …');
   if (currentCommand() === 'run' && bench.answer === null) putFormats({ printed: reportNow().text });
   return showFormat();
 }
@@ -146,21 +164,21 @@ function showReport() {
 /** Shows an answer in the place of a run, and marks what is refused. */
 function showAnswer(answer) {
   Object.assign(bench, { answer, told: null });
-  const isText = answer.status !== Tso.STATUS.refused && answer.text !== '';
+  const isText = answer.status !== REFUSED && answer.text !== '';
   hideRun();
   byId('brief').hidden = true;
-  byId('states').replaceChildren();
+  fill(byId('states'));
   showWayBack();
   markRefusal(answer);
   showLeft();
-  const noted = answer.status === Tso.STATUS.refused || currentCommand() === 'tables' ? '' : noticeOf(inputOf('sweep'));
-  for (const place of document.querySelectorAll('.noticed')) putText(place, noted);
-  if (answer.status === Tso.STATUS.refused) byId('test-part').open = true;
+  const noted = answer.status === REFUSED || currentCommand() === 'tables' ? '' : noticeOf(inputOf('sweep'));
+  queryAll('.noticed').forEach((place, at) => putText(place, at > 0 ? noted.replace(/^Written: .*?(?=Note|$)/, '') : noted));
+  if (answer.status === REFUSED) byId('test-part').open = true;
   showSaid(answer, isText ? '' : answer.text.trim());
   byId('report-part').hidden = !isText;
   byId('report').textContent = isText ? answer.text : '';
   putFormats(isText ? { printed: answer.text } : {});
-  for (const button of document.querySelectorAll('[data-save=report]')) button.disabled = !isText;
+  for (const button of queryAll('[data-save=report]')) button.disabled = !isText;
 }
 
 /** Shows an answer that has no picture. */
@@ -176,13 +194,13 @@ const PLAIN_WORDS = {
 };
 
 function showSaid({ status, hint }, said) {
-  byId('told').classList.toggle('mild', status === Tso.STATUS.unended);
+  putClass(byId('told'), 'mild', status === UNENDED);
   byId('said').textContent = PLAIN_WORDS[status] ?? said;
   byId('hint').textContent = pageHint(hint).replace(/^hint: ./gm, all => all.at(-1).toUpperCase());
 }
 
 /** What an answer says in the words of litmus tests, folded. */
-const inTerms = text => html('details', { class: 'terms small' }, html('summary', {}, 'In litmus terms'), html('p', {}, text));
+const inTerms = text => html('details', 'terms small', html('summary', {}, 'In litmus terms'), html('p', {}, text));
 
 /** The heading of an answer's sheet, to which the focus goes. */
 const answerTitle = text => html('h2', { class: 'answer-title', tabindex: -1 }, text);
@@ -192,7 +210,7 @@ const isAskedBeside = () => byId('test-part').open && byId('test-part').contains
 
 /** Says an answer's first sentence beside the test; answers whether it did. */
 function saidInBrief() {
-  const said = byId('states').querySelector('[role=status] strong')?.textContent ?? '';
+  const said = query('#states [role=status] strong')?.textContent ?? '';
   const isBeside = isAskedBeside() && (working.asker === byId('test') || byId('commands').offsetTop < byId('told').offsetTop);
   byId('brief').hidden = !isBeside || said === '';
   putText(byId('brief-said'), byId('brief').hidden ? '' : said);
@@ -204,16 +222,16 @@ const TOO_LOW = 0.7; // what begins below it does
 
 /** Puts the focus on the answer, in sight. A lesson goes on from it with Next. */
 function focusAnswer() {
-  const title = byId('states').querySelector('.answer-title') ?? byId('report');
-  const top = lesson.told !== null ? byId('lesson') : byId('way-back').hidden ? title : byId('way-back');
-  if (isLecture() || top.getBoundingClientRect().top + scrollY < HIGH * innerHeight) scrollTo(0, 0);
+  const title = query('#states .answer-title') ?? byId('report');
+  const top = isLesson() ? byId('lesson') : byId('way-back').hidden ? title : byId('way-back');
+  if (isLecture() || boxOf(top).top + scrollY < HIGH * innerHeight) scrollTo(0, 0);
   else top.scrollIntoView({ block: 'start' });
   const said = title === byId('report') ? null : title.parentElement.querySelector('[role=status]');
   if (said) {
     said.id = 'answer-said'; // it is read with the heading
     title.setAttribute('aria-describedby', said.id);
   }
-  if (lesson.told === null) title.focus({ preventScroll: true });
+  if (!isLesson()) focusOn(title);
   else focusStep();
 }
 
@@ -228,7 +246,8 @@ function foldReport(answer) {
 /** Offers the way back to the run, while an answer is shown in its place. */
 function showWayBack() {
   byId('way-back').hidden = currentCommand() === 'run';
-  for (const button of byId('way-back').querySelectorAll('[data-ask]')) button.hidden = button.dataset.ask === currentCommand();
+  placeList();
+  for (const button of queryAll('#way-back [data-ask]')) button.hidden = button.dataset.ask === currentCommand();
 }
 
 /** Shows the run again, as it was before the answer, with the machine in sight. */
@@ -238,8 +257,8 @@ function backToRun() {
     putCommand('run');
     answerNow();
   }
-  if (document.activeElement === document.body) focusMachine(); // what had the focus is gone
-  const { top } = byId('machines').getBoundingClientRect();
+  if (focused() === document.body) focusMachine(); // what had the focus is gone
+  const { top } = boxOf(byId('machines'));
   if (!isLecture() && (top < byId('stepper').offsetHeight || top > TOO_LOW * innerHeight)) byId('run').scrollIntoView({ block: 'start' });
 }
 
@@ -273,7 +292,7 @@ function hasRoom(choices, depth) {
 }
 
 /** Puts the focus on the machine's heading. */
-const focusMachine = () => document.querySelector('#machines h3')?.focus({ preventScroll: true });
+const focusMachine = () => focusOn(query('#machines h3'));
 
 /** Runs choices that were found, in one's own store buffers where there is room. */
 function loadChoices(choices, found) {
@@ -289,9 +308,9 @@ function loadChoices(choices, found) {
   showOwnRun(`This is a run of the answer${isOther ? `, with ${plainMachineName({ depth: Number(depth) })} (yours have ${before})` : ''}.`);
   const sheet = [...byId('states').children]; // it stays beside the run
   answerNow();
-  byId('states').replaceChildren(...sheet);
+  fill(byId('states'), ...sheet);
   markShownState(choices);
-  byId('stepper').scrollIntoView({ block: byId('test-part').open ? 'start' : 'nearest' });
+  seeRun();
   focusMachine();
 }
 
@@ -329,7 +348,7 @@ async function makeBench() {
   bench.tso = tso;
   bench.hasLargerSet = hasLargerSet(tso);
   for (const [command, tells] of [['why', tellsWhy], ['counts', tellsCounts]]) {
-    if (!tells(tso)) for (const part of document.querySelectorAll(`[data-for=${command}]`)) part.remove();
+    if (!tells(tso)) for (const part of queryAll(`[data-for=${command}]`)) part.remove();
   }
   const { version, tools, sources } = MODULE;
   byId('version').textContent = `The machine has version ${version}. It was made by ${tools}, from sources with the digest ${sources.slice(0, 16)}.`;

@@ -30,7 +30,7 @@ function drawBesideChoices(options) {
   if (field.dataset.key !== key) {
     field.dataset.key = key;
     const option = (value, text) => html('option', { value: JSON.stringify(value) }, text);
-    field.replaceChildren(option(null, 'no other machine'), option(ABREAST, 'all four protocols'), ...others.map(other => option(other, machineName(other))));
+    fill(field, option(null, 'no other machine'), option(ABREAST, 'all four protocols'), ...others.map(other => option(other, machineName(other))));
   }
   const wanted = drive.beside === null || drive.beside === ABREAST ? drive.beside : others.find(other => machineName(other) === machineName(drive.beside));
   field.value = wanted === undefined ? NO_OTHER : JSON.stringify(wanted);
@@ -39,7 +39,7 @@ function drawBesideChoices(options) {
 function putBeside(text) {
   putDrive({ beside: JSON.parse(text) });
   beginDrive(firstHistory(), drive, drive.count);
-  if (drive.beside === ABREAST && lesson.told === null) scrollBy(0, byId('programs').getBoundingClientRect().top - (isStepperBelow() ? 0 : byId('stepper').offsetHeight));
+  if (drive.beside === ABREAST && !isLesson()) scrollBy(0, boxOf(byId('programs')).top - (isStepperBelow() ? 0 : byId('stepper').offsetHeight));
 }
 
 /** Programs in one line; of each what `marks` says of an instruction's place is its class, and what `after` gives stands behind it. */
@@ -54,8 +54,10 @@ function showPrograms() {
   const [now, old] = [count, Math.max(0, count - 1)].map(each => history.machineAfter(each).cores.map(({ place }) => place));
   const marks = (core, at) => (at === now[core] ? 'next' : at === old[core] ? 'changed' : '');
   const { panels } = drawn.panels[0], registers = core => (panels[core].used.length === 0 ? [] : [panels[core].registers.element.cloneNode(true)]);
-  const { bus } = history.options, shared = `${bus} bus, ${plainMachineName(history.options)}${wordsSaid(history.options)}`;
-  byId('programs').replaceChildren(...programLines(history.programs, marks, registers), html('span', { class: 'faint' }, shared));
+  const { bus, protocol } = history.options, shared = `${bus} bus, ${plainMachineName(history.options)}${wordsSaid(history.options)}`, wanted = wantedWords(history.proposition ?? ''), read = wanted && loadsSentence(wanted, history.programs);
+  const end = !isLecture() || !read ? html('span', 'faint', shared) : html('strong', isTrueAfter(history, count) ? '' : 'later', reachedSentence(wanted, history.programs));
+  fill(byId('programs'), ...programLines(asWritten(drive.test, history.programs), marks, registers), end);
+  setAll(byId('driving'), { 'data-first': protocol.toUpperCase() });
 }
 
 /** Whether two machines did the same in the first steps. Where they differ, the last ones tell it soonest. */
@@ -76,7 +78,7 @@ function markDifferences() {
   for (const panel of others) {
     if (others.length > 1) putText(panel.said, saidOtherwise(panel, first));
     for (const [own, other] of [[panel.said, others.length > 1 ? { textContent: '' } : first.said], [panel.bus.element, first.bus.element], [panel.memory.element, first.memory.element]]) {
-      own.classList.toggle('differs', own.textContent !== other.textContent);
+      putClass(own, 'differs', own.textContent !== other.textContent);
     }
     markCounts(panel.tally, first.tally);
     panel.panels.forEach((core, at) => markRows(core.lines.element, first.panels[at].lines.element));
@@ -86,10 +88,10 @@ function markDifferences() {
 /** Marks of the counts of misses, upgrades and so on those that differ. */
 function markCounts(own, first) {
   const there = first.textContent.split(', ');
-  own.replaceChildren(...own.textContent.split(', ').flatMap((count, at) => [at === 0 ? '' : ', ', count === there[at] ? count : html('span', { class: 'differs' }, count)]));
+  fill(own, ...own.textContent.split(', ').flatMap((count, at) => [at === 0 ? '' : ', ', count === there[at] ? count : html('span', 'differs', count)]));
 }
 
 function markRows(table, first) {
   const there = [...first.rows].map(row => row.textContent);
-  for (const row of table.rows) row.classList.toggle('differs', !there.includes(row.textContent));
+  for (const row of table.rows) putClass(row, 'differs', !there.includes(row.textContent));
 }

@@ -5,7 +5,7 @@
 const MOST_BRANCHES = 6;
 const SAID_OF_BRANCH = 8; // choices of a way that its button says
 
-/** The ways of a test on a machine (`key`), each its choices and after how many of them it was left. */
+/** The ways of a test on a machine (`key`), each its choices, after how many of them it was left, and whose it is. */
 const branches = { key: null, kept: [] };
 
 const keyOfBranches = () => JSON.stringify([drive.test, firstHistory()?.options]);
@@ -16,16 +16,15 @@ const beginWith = (words, others) => others.every((word, at) => words[at] === wo
 /** Keeps a way that is left. One that is the beginning of another isn't kept beside it. */
 function keepBranch({ words, count }) {
   const key = keyOfBranches(), others = branches.key === key ? branches.kept.filter(other => !beginWith(words, other.words)) : [];
-  Object.assign(branches, { key, kept: [{ words, count }, ...others].slice(0, MOST_BRANCHES) });
+  Object.assign(branches, { key, kept: [{ words, count, whose: words === fromExample.words ? 'the example\'s, ' : '' }, ...others].slice(0, MOST_BRANCHES) });
 }
 
 /** The ways that are others than the one that is shown. */
 const otherBranches = () => (branches.key === keyOfBranches() ? branches.kept.filter(({ words }) => !beginWith(drive.words, words)) : []);
 
 /** Takes a way again, at the place where it was left; the one that is shown is kept in its place. */
-function takeBranch(at) {
-  const { words, count } = otherBranches()[at], { words: left, count: place } = drive;
-  const { history } = historyOf(firstHistory().options, inputOfWords(words));
+function takeBranch({ words, count }) {
+  const { words: left, count: place } = drive, { history } = historyOf(firstHistory().options, inputOfWords(words));
   if (!history) return;
   branches.kept = branches.kept.filter(branch => branch.words !== words);
   keepBranch({ words: left, count: Math.min(place, left.length) });
@@ -33,17 +32,17 @@ function takeBranch(at) {
   putWords();
 }
 
-function branchButton({ words, count }, at) {
+function branchButton({ words, count, whose }, at) {
   const rest = words.slice(count), said = rest.slice(0, SAID_OF_BRANCH).join(' ') + (rest.length > SAID_OF_BRANCH ? ' …' : '');
-  return html('button', { type: 'button', 'data-branch': at, class: 'quiet' }, `${count === 0 ? 'from the start' : `after choice ${count}`}: ${said}`);
+  return html('button', { 'data-branch': at, class: 'quiet' }, `${whose}${count === 0 ? 'from the start' : `after choice ${count}`}${said && `: ${said}`}`);
 }
 
 function showBranches() {
   const others = branches.kept.length === 0 ? [] : otherBranches();
   byId('branches').hidden = others.length === 0;
-  if (others.length > 0) putChildren(byId('branches'), [html('span', {}, 'Your earlier run'), ...others.map(branchButton)]);
+  if (others.length > 0) putChildren(byId('branches'), [html('span', {}, 'Earlier run'), ...others.map(branchButton)]);
 }
 
-document.addEventListener('click', ({ target }) => {
-  if (target.dataset?.branch !== undefined) takeBranch(Number(target.dataset.branch));
+on(document, 'click', ({ target }) => {
+  if (target.dataset?.branch !== undefined) takeBranch(otherBranches()[target.dataset.branch]);
 });

@@ -21,7 +21,7 @@ const drivenMachines = () => drive.histories.map(({ options }) => options);
 /** Shows or hides what belongs to caches and bus, and says which of the two at the box for it. */
 function putCaches() {
   const machines = drivenMachines(), isShown = showsCaches(machines), box = byId('caches');
-  byId('run').classList.toggle('plain', !isShown);
+  putClass(byId('run'), 'plain', !isShown);
   Object.assign(box, { checked: isShown, disabled: needsBus(machines) });
   return isShown;
 }
@@ -38,9 +38,15 @@ function wantCaches(isWanted) {
 const plainSupply = supply => (supply?.isTaken ? null : supply === null || supply.from === 'buffer' ? supply : { ...supply, from: 'memory', owner: null });
 
 /** A machine in words for readers, which a lesson brings one by one; `machineName` is for addresses. */
-const machineTitle = options => `${lesson.told === null ? `${options.protocol.toUpperCase()}, ${options.bus} bus` : 'Caches'}, ${plainMachineName(options)}${wordsSaid(options)}`;
+const machineTitle = options => `${!isLesson() ? `${options.protocol.toUpperCase()}, ${options.bus} bus` : 'Caches'}, ${plainMachineName(options)}${wordsSaid(options)}`;
 
 const wordsSaid = ({ words }) => (valueOf('words') === 1 ? '' : `, ${words} ${words === 1 ? 'word' : 'words'} a line`);
+
+/** Which words share a line, behind a test's name in a lecture. */
+function linesSaid() {
+  const [history] = drive.histories, names = history && showsCaches(drivenMachines()) ? Object.keys(history.machineAfter(0).memory) : [];
+  return names.length > 1 && names.length <= history.options.words ? `: ${listed(names)} in one line` : '';
+}
 
 /** A machine in words that speak of store buffers alone. */
 const plainMachineName = ({ depth }) => (depth === 0 ? 'no store buffers' : `store buffers of ${depth} ${depth === 1 ? 'store' : 'stores'}`);

@@ -22,7 +22,7 @@ const machineName = ({ protocol, bus, depth, words }) => (words < valueOf('words
 /** What a run on a machine came to, as the cells of a row; where it didn't end, how far it came. */
 function comparedCells(options, input, first) {
   const { status, text } = asked({ ...options, json: true }, input);
-  if (status === Tso.STATUS.unended) {
+  if (status === UNENDED) {
     const { used, stalled } = JSON.parse(text).unfinished;
     return ['no', '', stalled, '', ...SUMMED.map(() => ''), used];
   }
@@ -40,16 +40,16 @@ function comparisonTable(options, input, order) {
   return tableOf('The same choices on other machines', titles, otherMachines(options).map((machine, at) => html('tr', {},
     html('th', { scope: 'row' }, machineName(machine)),
     ...comparedCells(machine, input, first).map(cell => html('td', {}, String(cell))),
-    html('td', {}, at === 0 ? 'this one' : html('button', { type: 'button', 'data-machine': JSON.stringify(machine),
+    html('td', {}, at === 0 ? 'this one' : html('button', { 'data-machine': JSON.stringify(machine),
       'aria-label': `Take ${machineName(machine)}` }, 'Take it')))));
 }
 
 /** Draws the comparison of the run that is shown, where it is looked at. */
 function compareNow() {
-  const { options } = readSettings('run'), isAnswered = drive.isOn || bench.answer?.status === Tso.STATUS.good;
+  const { options } = readSettings('run'), isAnswered = drive.isOn || bench.answer?.status === GOOD;
   const isShown = isAnswered && currentCommand() === 'run' && shown.run !== null;
   byId('comparison').hidden = !isShown;
-  if (isShown && byId('comparison').open) byId('compared').replaceChildren(comparisonTable(options, drive.isOn ? driveInput() : inputOf('run'), shown.run.order));
+  if (isShown && byId('comparison').open) fill(byId('compared'), comparisonTable(options, drive.isOn ? driveInput() : inputOf('run'), shown.run.order));
 }
 
 function takeMachine(text) {

@@ -33,8 +33,8 @@ function countsTable(cores) {
   const titles = ['', ...cores.map((_, core) => `P${core}`), 'All cores'];
   return tableOf('The sum over the runs, and in brackets the least and the greatest of one run', titles, Object.entries(COUNTED).map(([name, words]) => html('tr', {},
     html('th', { scope: 'row', class: 'wraps' }, words),
-    ...cores.map(core => html('td', { class: 'number' }, spreadText(core[name]))),
-    html('td', { class: 'number' }, String(cores.reduce((sum, core) => sum + core[name].sum, 0))))));
+    ...cores.map(core => html('td', 'number', spreadText(core[name]))),
+    html('td', 'number', String(cores.reduce((sum, core) => sum + core[name].sum, 0))))));
 }
 
 /** The protocols that are counted: that of the settings, and where all stand abreast the others. */
@@ -44,7 +44,7 @@ const countedProtocols = () => [...new Set([valueOf('protocol'), ...(drive.besid
 function protocolsTable(answers) {
   const sums = (name, { text }) => String(JSON.parse(text).cores?.reduce((sum, core) => sum + core[name].sum, 0));
   return tableOf('The sum over the runs and all cores', ['', ...countedProtocols().map(name => name.toUpperCase())], Object.entries(COUNTED).map(([name, words]) =>
-    html('tr', {}, html('th', { scope: 'row', class: 'wraps' }, words), ...answers.map(answer => html('td', { class: 'number' }, sums(name, answer))))));
+    html('tr', {}, html('th', { scope: 'row', class: 'wraps' }, words), ...answers.map(answer => html('td', 'number', sums(name, answer))))));
 }
 
 /** Shows the answers of `counts --json`, one for each protocol. */
@@ -52,5 +52,5 @@ function showCounts(answers) {
   const [answer] = answers, { cores, runs } = JSON.parse(answer.text), tables = cores === null ? [] : [...(answers.length > 1 ? [protocolsTable(answers)] : []), countsTable(cores)];
   showAnswer(answer);
   foldReport(answer);
-  byId('states').replaceChildren(answerTitle('What the caches did'), html('p', { role: 'status' }, countedSentence(runs, valueOf('protocol'))), ...tables);
+  fill(byId('states'), answerTitle('What the caches did'), html('p', { role: 'status' }, countedSentence(runs, valueOf('protocol'))), ...tables);
 }

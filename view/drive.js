@@ -5,11 +5,8 @@
 const MOST_STEPS = 1000;
 const FEW_CORES = 4; // so many have room beside the picture
 
-/**
- * What is driven, as a value: whatever is done makes another. The choices that are known (`words`), of which the first `count` are made;
- * the input's test, and the whole input where it spells these choices in words of its own (`given`); the machines' histories; the core that
- * keys act on; and the machine beside the first, or null.
- */
+/** What is driven, as a value: the known choices (`words`), of which the first `count` are made; the input's test, and the whole input where it
+ * spells them itself (`given`); the machines' histories; the core that keys act on; the machine beside, or null. */
 const NOT_DRIVEN = Object.freeze({ isOn: false, words: [], count: 0, test: '', given: null, histories: [], core: 0, beside: null });
 
 let drive = NOT_DRIVEN;
@@ -37,9 +34,9 @@ function beginDrive(history, { test, given }, count) {
   putDrive({ isOn: true, test, given, words, core, count: Math.min(count, words.length) });
   putDrive({ histories: [history, ...historiesBeside(history.options)] });
   putPanels(drive.histories.map((each, at) => (drawn.panels[at]?.isOf(each) ? drawn.panels[at] : new MachinePanel(each))));
-  byId('machines').classList.toggle('two', drive.histories.length === 2);
-  byId('machines').classList.toggle('abreast', drive.histories.length > 2);
-  byId('machines').classList.toggle('many', history.cores > FEW_CORES);
+  putClass(byId('machines'), 'two', drive.histories.length === 2);
+  putClass(byId('machines'), 'abreast', drive.histories.length > 2);
+  putClass(byId('machines'), 'many', history.cores > FEW_CORES);
   nameStage(drive.histories.length, history.cores);
   Object.assign(drawn, { picture: null, passes: null });
   drawBesideChoices(history.options);
@@ -49,29 +46,28 @@ function beginDrive(history, { test, given }, count) {
 /** What the style has to know of the machines. It asks no `:has` of what changes at each step, since a browser then looks through all of it. */
 function nameStage(machines, cores) {
   const isFew = cores <= FEW_CORES, names = { lone: machines === 1 && isFew, four: machines > 2 && isFew, pair: cores === 2, three: cores > 2, seven: cores > 6 };
-  for (const [name, is] of Object.entries(names)) byId('machines').parentElement.classList.toggle(name, is);
-  byId('run').classList.toggle('of-four', machines > 2);
+  for (const [name, is] of Object.entries(names)) putClass(byId('machines').parentElement, name, is);
+  putClass(byId('run'), 'of-four', machines > 2);
 }
 
 function putPanels(panels) {
   if (panels.length === drawn.panels.length && panels.every((panel, at) => panel === drawn.panels[at])) return;
   drawn.panels = panels;
-  byId('machines').replaceChildren(...panels.map(panel => panel.element));
+  fill(byId('machines'), ...panels.map(panel => panel.element));
 }
 
 function endDrive() {
   stopPlaying();
   putDrive({ isOn: false, histories: [] });
   Object.assign(drawn, { picture: null, passes: null });
-  byId('passes').replaceChildren();
+  fill(byId('passes'));
 }
 
 // Making choices.
 
 const REST_AFTER = 150; // milliseconds without a choice, after which what can wait is drawn
 
-/** What is driven after one more choice: the one that comes next where it is the same, and else another, after which nothing comes. Null
- * where a machine doesn't tell its step. */
+/** What is driven after one more choice: the known next one, or another, after which nothing comes. Null where a machine doesn't tell its step. */
 function afterChoice(driven, word) {
   const core = coreOfChoice(word), count = driven.count + 1;
   if (driven.words[driven.count] === word) return { ...driven, core, count };
@@ -109,7 +105,7 @@ function refuseStall({ histories: [history], count }, word) {
   markKeyed(false);
   for (const panel of drawn.panels) panel.offerStall(word);
   const said = `${why} So ${word} does nothing.`;
-  if (lesson.told === null) sayOfDriving(`${said} “stall” makes it anyway.`);
+  if (!isLesson()) sayOfDriving(`${said} “stall” only records it in the run: nothing changes.`);
   else sayInLesson(said);
 }
 
@@ -122,7 +118,7 @@ function stopBefore() {
   showDrive();
 }
 
-const sayOfDriving = sentence => byId('sentence').textContent = sentence;
+const sayOfDriving = sentence => putExplained(byId('sentence'), sentence);
 
 function refuseMore() {
   sayOfDriving(`The machine has made ${MOST_STEPS} choices, and the page shows no more steps than that. Write further choices into the field of choices: the page shows their run without steps.`);
@@ -140,7 +136,7 @@ function lastStep(options, words) {
   return null;
 }
 
-const isOfStep = status => status === Tso.STATUS.good || status === Tso.STATUS.unended;
+const isOfStep = status => status === GOOD || status === UNENDED;
 
 const stepAnswer = (options, input) => (bench.tracing === 'step' ? asked({ ...options, command: 'step', json: true }, input) : { status: Tso.STATUS.nothingAsked });
 
@@ -238,8 +234,15 @@ function setSpeed(speed) {
 
 // Keys: a choice is typed as it is written, `0s` or `0d`; the core that was named last is kept.
 
+/** Makes a choice of the core that was named. The focus goes along, where it was at another choice. */
+function chooseByKey(way) {
+  const word = drive.core + way;
+  makeChoice(word);
+  if (!isLesson() && document.activeElement.dataset.choice) focusOn(query(`[data-choice="${word}"]`));
+}
+
 const DRIVE_KEYS = {
-  s: () => makeChoice(`${drive.core}s`), d: () => makeChoice(`${drive.core}d`), p: playOrPause, r: drawSeed,
+  s: () => chooseByKey('s'), d: () => chooseByKey('d'), p: playOrPause, r: drawSeed,
   '+': () => setSpeed(Number(byId('speed').value) + 1), '-': () => setSpeed(Number(byId('speed').value) - 1),
 };
 

@@ -7,11 +7,11 @@ function showDrive() {
   const history = firstHistory(), { count } = drive, isPlain = !putCaches();
   drawn.panels.forEach((panel, at) => panel.show(drive.histories[at], count, isPlain));
   markKeyed(false);
-  byId('run').classList.toggle('fresh', count === 0);
+  putClass(byId('run'), 'fresh', count === 0);
   showPicture();
   const step = history.steps[count - 1];
   const said = step ? saidOfStep(step) : count === 0 ? startSentence(history) : 'The first machine\'s test has ended.';
-  byId('sentence').textContent = lesson.told ? '' : said + (isPlain ? '' : sharedLine(history, count));
+  putExplained(byId('sentence'), lesson.told ? '' : said + (isPlain ? '' : sharedLine(history, count)));
   byId('count').textContent = `${choicesSaid(count)} made`;
   showMoves();
   showBranches();
@@ -46,28 +46,31 @@ const isStepperBelow = () => matchMedia('(max-width: 560px)').matches;
 
 const choicesSaid = count => `${count} ${count === 1 ? 'choice' : 'choices'}`;
 
+/** For who listens, what is asked, where the headline is an entry's own name. */
+const saidInHall = () => (isOfEntry(false) && ownNameOf(taught.list[playlist.at]) ? ` ${proposedQuestion(drive.test)}` : '');
+
 /** What is said at the start: that choices are known, or how many a run needs. */
 function startSentence(history) {
   const known = drive.words.length, seed = /^\s*seed\s+(\d+)\s+\d+\s*$/.exec(choicesText())?.[1], by = seed === undefined ? '' : `, drawn by chance from seed ${seed}`;
   const whose = drive.words === fromExample.words ? `This example comes with ${choicesSaid(known)}` : known === 1 ? 'One choice is known' : `${known} choices are known`;
-  if (known > 0) return `The machine at its start. ${whose}${by}: ${isLecture() ? 'PageDown' : 'Forward'} makes ${known === 1 ? 'it' : 'them'}.`;
-  return `Press step or drain at a core: its next instruction, or its oldest store to memory.${leastSentence(history)}`;
+  if (known > 0) return `The machine at its start.${isLecture() ? saidInHall() : ` ${whose}${by}: Forward makes ${known === 1 ? 'it' : 'them'}.`}`;
+  return `Press step: the core does its next instruction. Press drain: its oldest store goes to memory.${isStepperBelow() ? '' : leastSentence(history)}`;
 }
 
 function showMoves() {
   const isFirst = drive.count === 0, isLast = drive.count === drive.words.length;
-  for (const button of byId('stepper').querySelectorAll('[data-move]')) button.disabled = ['first', 'back'].includes(button.dataset.move) ? isFirst : isLast;
+  for (const button of queryAll('#stepper [data-move]')) button.disabled = ['first', 'back'].includes(button.dataset.move) ? isFirst : isLast;
   for (const id of ['play', 'draw-seed']) byId(id).disabled = isAtEnd(drive);
 }
 
 /** Marks the core on which keys act, while a key has named it and the choice is to come (`isAsked`). */
 function markKeyed(isAsked) {
-  document.documentElement.classList.toggle('keyed', isAsked);
-  for (const { panels } of drawn.panels) panels.forEach(({ element }, core) => element.classList.toggle('chosen', core === drive.core));
+  putClass(ROOT, 'keyed', isAsked);
+  for (const { panels } of drawn.panels) panels.forEach(({ element }, core) => putClass(element, 'chosen', core === drive.core));
 }
 
-/** How a lecture's picture grows: by what at least and at most, in which part of the window's height (`higher`, in a low window and in others, where
- * nothing passes and less is said below), and by how wide its lanes have to be. */
+/** How a lecture's picture grows: at least, at most, in which part of the window's height (`higher` where nothing passes, in a low window and in others),
+ * and how wide its lanes must be. */
 const LECTURED = { least: 1, most: 2.2, high: 0.5, higher: [0.54, 0.58], lanes: 492, lane: 122 };
 const SCROLLBAR = 17; // pixels, at most
 const mayPass = program => /MOV \[((?!MFENCE|LOCK|XCHG).)*MOV \w+,\[/.test(program); // a load after a store, with no fence between
@@ -97,22 +100,23 @@ function makePicture() {
   shown.layout = picture.layout;
   const { style } = byId('frame').parentElement, zoom = zoomOfPicture();
   for (const [name, value] of [['large', zoom], ['row', `${picture.layout.row * zoom}px`], ['rows', mostRows(firstHistory().programs)]]) style.setProperty(`--${name}`, value);
-  byId('frame').classList.toggle('whole', picture.layout.width <= room);
+  putClass(byId('frame'), 'whole', picture.layout.width <= room);
   byId('frame').style.containIntrinsicWidth = `${picture.layout.width}px`;
-  byId('frame').replaceChildren(picture.element);
-  byId('names').replaceChildren(drawNames(firstHistory(), picture.layout));
+  fill(byId('frame'), picture.element);
+  fill(byId('names'), drawNames(firstHistory(), picture.layout));
 }
 
 function showPicture() {
   if (drawn.picture === null || drawn.picture.isTooNarrowFor(firstHistory())) makePicture();
   drawn.picture.show(firstHistory(), drive.count);
   const isOver = firstHistory().hasEnded(drive.count), isEmpty = drawn.picture.rows.length === 0;
-  byId('frame').parentElement.classList.toggle('ended', isOver);
+  putClass(byId('frame').parentElement, 'ended', isOver);
   putText(byId('order-title'), isOver ? 'Memory order' : isEmpty ? 'Memory order: no rows yet' : 'Memory order so far');
   const { layout: { top }, extent, bottom } = drawn.picture, most = frameMost() * innerHeight;
   const height = isLecture() ? Math.max(firstHistory().cores > 2 ? 0 : most - 10, top(mostRows(firstHistory().programs)) + STRIP - HEAD) : bottom - HEAD;
   extent.style.minHeight = isLecture() ? `${Math.floor(Math.min(height, most))}px` : '';
-  byId('frame').classList.toggle('full', height > most);
+  putClass(byId('frame'), 'full', height > most);
+  byId('frame').tabIndex = height > most || !byId('frame').matches('.whole') ? 0 : -1; // where it scrolls
 }
 
 /** Brings the last row into sight, and the lane of the core that acted. */
@@ -135,7 +139,7 @@ function placeDriven() {
 function runAtEnd(history) {
   if (drive.count < history.steps.length || !history.hasEnded(drive.count)) return null;
   const { status, text } = asked({ ...history.options, command: 'run', json: true }, driveInput());
-  return status === Tso.STATUS.good ? text.trim() : null;
+  return status === GOOD ? text.trim() : null;
 }
 
 /** Tells the condition; of a test that has ended also its truth, and what the run left. */
@@ -143,15 +147,15 @@ function showEnd(history) {
   const line = runAtEnd(history), run = line && readLine(line);
   Object.assign(shown, { run, line: line ?? '' });
   const verdict = run ? (isLecture() && endSentence(history, run)) || verdictSentence(run, history.proposition) : conditionSentence(history);
-  putCondition(byId('verdict'), verdict);
+  putExplained(byId('verdict'), verdict);
   if (run && !isLecture()) tellInWords(byId('verdict'), history, run);
-  byId('verdict').classList.toggle('yes', isLecture() && verdict.startsWith('Yes: '));
+  putClass(byId('verdict'), 'yes', isLecture() && verdict.startsWith('Yes: '));
   showPasses(history);
   byId('at-end').hidden = run === null;
   byId('comparison').hidden = run === null;
-  byId('saves').querySelector('[data-save=line]').disabled = run === null;
+  query('#saves [data-save=line]').disabled = run === null;
   if (run === null) return;
-  byId('left').replaceChildren(...finalTables(run, drawn.panels[0].panels.map(({ used }) => used), drive.histories.length > 2 ? `, ${history.options.protocol.toUpperCase()}` : ''));
+  fill(byId('left'), ...finalTables(run, drawn.panels[0].panels.map(({ used }) => used), drive.histories.length > 2 ? `, ${history.options.protocol.toUpperCase()}` : ''));
   if (byId('order-part').open) showOrder();
   compareNow();
 }
@@ -162,7 +166,7 @@ function tellInWords(element, { proposition, programs }, { condition }) {
   if (!wanted) return;
   const [said] = element.textContent.split('Condition: '), words = loadsSentence(wanted, programs) || wantedSentence(wanted), isShown = condition.holds && condition.kind !== 'forall';
   MEANINGS.written = `Written ${condition.kind} (${proposition}).`;
-  element.replaceChildren(isShown ? said.replace(/\. $/, ': ') : said, withMeaning({ tabindex: -1 }, 'written', isShown ? words : words.replace(/^b/, 'B')), isShown ? '.' : `: ${condition.holds}.`);
+  fill(element, isShown ? said.replace(/\. $/, ': ') : said, withMeaning({ tabindex: -1 }, 'written', isShown ? words : words.replace(/^b/, 'B')), isShown ? '.' : `: ${condition.holds}.`);
 }
 
 /** Lists what loads passed so far. */
@@ -172,20 +176,28 @@ function showPasses(history) {
 }
 
 /** The condition before the test has ended: in words, where it has some, and as it is written; in a lecture in words alone. */
-function conditionSentence({ proposition, programs }) {
+function conditionSentence(history) {
+  const { proposition, programs } = history;
   if (proposition === null) return 'Condition: the test has none.';
   const wanted = wantedWords(proposition), inWords = wanted && (loadsSentence(wanted, programs) || wantedSentence(wanted));
-  if (isLecture() && wanted !== null) return `Condition: ${inWords}.`;
+  if (isLecture() && wanted !== null) return isTrueAfter(history, drive.count) ? reachedSentence(wanted, programs) : `Condition: ${inWords}.`;
   return `Condition: ${wanted === null ? '' : `${inWords}, written `}${proposition}.`;
 }
 
-/** Whether a run ended as is asked, in words alone; null where the condition has none. */
-function endSentence({ proposition }, { condition }) {
-  const wanted = condition && wantedWords(proposition), isSo = wanted && missedPlaces(firstHistory(), drive.count, wanted).length === 0;
-  return wanted && `${isSo ? 'Yes: this run ends' : 'This run doesn\'t end'} with ${wantedSentence(wanted)}.${isSo ? '' : ' It tells nothing about other runs.'}`;
+/** That a run got there. */
+function reachedSentence(wanted, programs) {
+  const read = loadsSentence(wanted, programs);
+  return read ? `✓ ${read.replace(/^b/, 'B').replace(' read ', ' have read ')}.` : `Yes: this run ends with ${wantedSentence(wanted)}.`;
 }
 
-const showOrder = () => byId('order').replaceChildren(...(shown.run ? [orderTable(shown.run)] : []));
+/** Whether a run ended as is asked, in words alone; null where the condition has none. */
+function endSentence({ proposition, programs }, { condition }) {
+  const wanted = condition && wantedWords(proposition), isSo = wanted && missedPlaces(firstHistory(), drive.count, wanted).length === 0;
+  const read = wanted && loadsSentence(wanted, programs);
+  return wanted && (isSo ? reachedSentence(wanted, programs) : `This run ${read ? `isn't one in which ${read}` : `doesn't end with ${wantedSentence(wanted)}`}. It tells nothing about other runs.`);
+}
+
+const showOrder = () => fill(byId('order'), ...(shown.run ? [orderTable(shown.run)] : []));
 
 /** The history of an input; where it spells more choices than steps are told for, that of the first ones, if the run ends with them. */
 function historyWithin(options, input) {
@@ -236,9 +248,9 @@ function showDriven(options, input, isAtStart) {
 
 /** Puts the parts for driving in the place of those for a run that has ended, or back. */
 function putDriving(isDriving) {
-  if (byId('run').classList.toggle('driving', isDriving) === byId('legend').open) byId('legend').open = !isDriving;
-  for (const part of document.querySelectorAll('[data-for=drive]')) part.hidden = !isDriving;
-  for (const part of document.querySelectorAll('[data-for=run]')) part.hidden = isDriving;
-  byId('passed-title').tabIndex = isDriving ? -1 : 0; // arrows lead there
+  if (putClass(byId('run'), 'driving', isDriving) === byId('legend').open) byId('legend').open = !isDriving;
+  for (const part of queryAll('[data-for=drive]')) part.hidden = !isDriving;
+  for (const part of queryAll('[data-for=run]')) part.hidden = isDriving;
+  for (const id of ['passed-title', 'frame']) byId(id).tabIndex = isDriving ? -1 : 0; // arrows lead there
   if (!isDriving && drive.isOn) endDrive();
 }

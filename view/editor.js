@@ -8,7 +8,7 @@ const readsOrder = command => command === 'check' || command === 'witness';
 
 /** The texts that a command reads: the test, and after it the choices or the order. */
 function inputOf(command) {
-  const test = byId('test').value, ended = test.endsWith('\n') || test === '' ? test : test + '\n';
+  const test = testNow(), ended = test.endsWith('\n') || test === '' ? test : test + '\n';
   if (command !== 'run' && !readsOrder(command)) return ended;
   return `${ended}${DIVIDING_LINE}\n${readsOrder(command) ? byId('given').value : choicesText()}`;
 }
@@ -95,9 +95,9 @@ function drawLines(id, marked) {
   if (gutter.dataset.key === key) return;
   gutter.dataset.key = key;
   if (id === 'test') field.rows = Math.min(ROWS.most, Math.max(ROWS.least, count));
-  const numbers = (from, to) => Array.from({ length: Math.max(0, to - from + 1) }, (_, at) => `${from + at}\n`).join('');
-  if (marked === null || marked > count) gutter.replaceChildren(numbers(1, count));
-  else gutter.replaceChildren(numbers(1, marked - 1), html('span', { class: 'refused' }, `▶${marked}\n`), numbers(marked + 1, count));
+  const numbers = (from, to) => times(Math.max(0, to - from + 1), at => `${from + at}\n`).join('');
+  if (marked === null || marked > count) fill(gutter, numbers(1, count));
+  else fill(gutter, numbers(1, marked - 1), html('span', 'refused', `▶${marked}\n`), numbers(marked + 1, count));
   band.hidden = marked === null || marked > count;
   band.dataset.line = marked ?? '';
   placeLines(id);
@@ -127,9 +127,12 @@ function placeOfRefusal(line, hint = '') {
 const plainCell = text => text.trim().replaceAll('\t', ' ');
 
 /** The cells of a row of programs, each with its text and where that begins. */
-function cellsOf(line) {
+const cellsOf = line => cellsIn(line.replace(/;.*$/, ''));
+
+/** The same of a row without its end. */
+function cellsIn(row) {
   let from = 0;
-  return line.replace(/;.*$/, '').split('|').map((text, core) => {
+  return row.split('|').map((text, core) => {
     const cell = { text: plainCell(text), from: from + text.length - text.trimStart().length, core };
     from += text.length + 1;
     return cell;
@@ -139,28 +142,26 @@ function cellsOf(line) {
 /** A hint with the whole of the cell that it quotes cut off. */
 const inFull = (hint, line) => hint.replace(/'([^']+?)\.\.'/, (all, cut) => `'${cellsOf(line).find(({ text }) => text.startsWith(cut))?.text ?? cut}'`);
 
-/** The cell at fault: the hint begins with it, or with a word of it alone; else null. */
-function cellAtFault(line, hint) {
-  if (/^X86|[{}]/.test(line) || !/[|;]/.test(line)) return null; // no row of programs
+/** The cell at fault: the hint begins with it, or `ask` finds it, or the hint begins with a word of it alone; else null. */
+function cellAtFault(line, hint, ask = () => []) {
+  if (/^X86|^\s*\{|\}\s*$/.test(line) || !/[|;]/.test(line) || quantifierOf(line) !== null) return null; // no row of programs
   const said = hint.replace(/^hint: (line \d+: )?'?/, ''), [word] = said.split(/[\s:,]/), cells = cellsOf(line).filter(({ text }) => text !== '');
   const quoted = cells.filter(({ text }) => said.startsWith(text) && !/\w/.test(said[text.length] ?? ''));
   const commaless = said.startsWith('no comma') ? cells.filter(({ text }) => /^\S+\s+[^\s,]+\s+[^,]+$/.test(text)) : [];
   const having = cells.filter(({ text }) => text.toLowerCase().split(/\W+/).includes(word.toLowerCase()));
-  return [said.includes('too many') ? quoted.slice(0, 1) : quoted, commaless, having].find(found => found.length === 1)?.[0] ?? null;
+  return [said.includes('too many') ? quoted.slice(0, 1) : quoted, commaless].find(found => found.length === 1)?.[0] ?? [ask(), having].find(found => found.length === 1)?.[0] ?? null;
 }
 
 /** Underlines the cell at fault in the band of its line. */
 function markCell(cell) {
   const band = byId('test-band');
   band.dataset.from = cell?.from ?? 0;
-  band.replaceChildren(...(cell === null ? [] : [html('span', {})]));
+  fill(band, ...(cell === null ? [] : [html('span', {})]));
   if (cell === null) return;
   const [mark] = band.children;
   mark.style.left = `${cell.from}ch`;
   mark.style.width = `${cell.text.length}ch`;
 }
-
-const MOST_WORD = 40; // letters of it that are said
 
 /** The refused word of the choices, as it is written. */
 function wordAt(text, number) {
@@ -169,16 +170,16 @@ function wordAt(text, number) {
 
 /** What is refused of the choices, in plain words. */
 function plainChoice(number, name) {
-  const word = wordAt(choicesText(), number)?.slice(0, MOST_WORD) ?? '', why = CHOICE_FAULTS[name]?.(word);
+  const word = wordAt(choicesText(), number)?.slice(0, 40) ?? '', why = CHOICE_FAULTS[name]?.(word);
   return why ? `${choicesText().includes('seed') ? 'Word' : 'Choice'} ${number}, ${word}: ${why}.` : '';
 }
 
 /** What is refused, in plain words: line, core, and why. */
 function plainRefusal(place, cell, line, hint) {
-  const name = line.trim().split(' ').at(-1), why = pageHint(hint).replace(/^hint: (line \d+: )?/, '') || FAULTS[name];
+  const name = line.trim().split(' ').at(-1), why = pageHint(hint).replace(/^hint: (line \d+: )?/, '') || 'this can\'t be read';
   if (place?.word) return plainChoice(place.word, name);
-  if (place?.line === undefined || why === undefined) return '';
-  return `${place.field === 'given' ? 'Order, line' : 'Line'} ${place.line}${cell === null ? '' : `, P${cell.core}`}${/^ ?needs/.test(why) ? '' : ':'} ${why.trim().replace(/\bas 0:E/, `as ${cell?.core ?? 0}:E`)}.`;
+  if (place?.line === undefined) return '';
+  return `${place.field === 'given' ? 'Order, line' : 'Line'} ${place.line}${cell?.core === undefined ? '' : `, P${cell.core}`}${/^ ?needs/.test(why) ? '' : ':'} ${why.trim().replace(/\bas 0:E/, `as ${cell?.core ?? 0}:E`)}.`;
 }
 
 /** Puts the caret where a line is marked, and brings it into sight. */
@@ -188,17 +189,23 @@ function focusRefusal() {
   field.setSelectionRange(at, at);
   field.blur(); // focus shows the caret
   field.focus();
-  for (const part of [byId('told'), band]) part.scrollIntoView({ block: 'nearest' });
+  for (const part of [byId('told'), band]) bringNear(part);
 }
 
 /** Hints that name what is certain to be meant, with what is changed, and to what. */
-const CELL = /^'?(.+?)'?(?=:| is).*(?:: write|one step:) ((?:LOCK )?[A-Z]+(?: [^\s;]+)?)(; leave out the ;.*)?\s*$/, SIGNS = { '&': '/\\', a: '/\\', '|': '\\/', o: '\\/', '=': '=' };
-const THREE = /three cells: (MOV \S+) {2}(.+?) {2}(MOV \S+), with a free/;
+const CELL = /^'?(.+?)'?(?=:| is).*(?:: write|one step:|word write) ((?:LOCK )?[A-Z]+(?: [^\s;]+)?)(; leave out the ;.*)?\s*$/, SIGNS = { '&': '/\\', a: '/\\', '|': '\\/', o: '\\/', '=': '=' };
+const STEPS = /(?:three cells: (MOV \S+) {2}(.+?) {2}(MOV \S+), with a free|: write (MOV \S+), and in the next cell (MOV \S+|MFENCE),)/;
 const REPAIRS = [
   [/^(\w+) (?:is no register|has 64 bits).*write (\w+)\s*$/, ([, word, other]) => [new RegExp(`\\b${word}\\b`, 'gi'), other]],
   [/^([\w ]+?)(?: is no instruction| isn't read)?: write (~?exists|forall|[A-Z]+)\s*$/, ([, word, other]) => [new RegExp(`\\b${word}\\b`, 'gi'), other]],
   [/^(; stands behind )?fence\b/i, () => [/(?<=(^|\|)\s*)fence(\s*;(?=.*[|;]))?(?=\s*([|;]|$))/gi, 'MFENCE']],
-  [/^no comma/, () => [/(?<=(?:^|\|)\s*)((?!LOCK)[A-Z]+ +[^\s,|]+) +([^\s,|;]+)(?=\s*(?:[|;]|$))/gi, '$1,$2']],
+  [/^(no comma|an operand is missing|(; ends a row|'[.:]'): a comma)/, () => [/(?<=(?:^|\|)\s*)((?:LOCK +)?(?!LOCK)[A-Z]+ +(?:\[\w+\]|\w+))(?: *[.:;] *| +|(?=[[$])|(?<=\]))(\[\w+\]|\$?-?\w+)(?=\s*(?:[|;]|$))/gi, '$1,$2']],
+  [/^(?!e..\b|r|[a-d][xhl]\b)([a-z_]\w*) is none of/, ([, word]) => [new RegExp(`(?<=(?:^|\\|)\\s*)(MOV +\\w+) +(${word})(?=\\s*(?:[|;]|$))`, 'gi'), '$1,[$2]']],
+  [/^no [[\]] (closes|stands before)/, () => [/\[+(\w+)[)}]?(?=\s*(?:[,|;]|$))|(?<![\w[])\(?(\w+)\]|(\[\w+\])\]+/g, (all, open, name, whole) => whole ?? `[${open ?? name}]`]],
+  [/^a comma stands behind/, () => [/([^\s|]+),\s*(?=[|;]|$)/g, '$1 ']],
+  [/^'([^\w\s])' can't stand here/, ([, sign]) => [new RegExp(`(?<=^[^\\${sign}]*)[^\\s|]*\\${sign}(?=[^\\${sign}]*$)`), part => part.slice(0, -1)]],
+  [/^an instruction has two operands and one comma/, () => [/([^\s|]+),(?:\s*,)+\s*([^\s|]+)/g, '$1,$2']],
+  [/^(\w+): write a space behind (\w+)/, ([, word, name]) => [new RegExp(`\\b${word}\\b`, 'gi'), `${name} ${word.slice(name.length)}`]],
   [/^; stands twice/, () => [/;(?:\s*;)+/, ';']],
   [/^no ; ends th(is|e) row/, () => [/\s*$/, ' ;']],
   [/^('[&|=]'|and|or): in a condition/, () => [/&&?|\|\|?|==|\b(?:and|or)\b/g, ([first]) => SIGNS[first]]],
@@ -208,12 +215,6 @@ const MOST_REPAIRED = 256; // as many cells as a test has
 /** A test without types in its initial state. */
 const untyped = test => test.replace(/\{[^}]*\}/, block => block.replace(/(?:\b[a-z_]\w*\s+)+([\w:]+\s*;[ \t]*\n?|(?=\[?[\w:]+\]?\s*=))/gi, ''));
 
-/** A test of X86_64 as one of X86, without types. */
-function narrowed(test) {
-  const text = untyped(test).replace('X86_64', 'X86').replace(/\br([a-d]x|[sd]i)\b/gi, (all, rest) => `E${rest.toUpperCase()}`);
-  return { text, isOther: true, said: 'X86_64 became X86, with registers of 32 bits' };
-}
-
 const PLAIN_REGISTERS = ['EAX', 'EBX', 'ECX', 'EDX', 'ESI', 'EDI'];
 
 /** The first and the last line of the programs of a test. */
@@ -221,8 +222,7 @@ const spanOf = lines => [lines.findIndex(line => /^\s*P\d+\s*[|;]/.test(line)), 
 
 const freeRegister = used => PLAIN_REGISTERS.find(each => !new RegExp(`\\b[ER]?${each.slice(1)}\\b`, 'i').test(used));
 
-/** A test in which a register as R8D is a free one of its core, or null. In the condition its bare name is meant, too, where in the
- * text `written` no other core has it, and no location. */
+/** A test with a free register for one as R8D, or null. In the condition its bare name is meant, too, where `written` has it in no other core or location. */
 function renamed(given, at, name, written) {
   const [first, last] = spanOf(given);
   const named = new RegExp(`\\b${name.replace(/^(r\d+)d?$/i, '$1d?')}\\b`, 'gi'), core = cellsOf(given[at]).findIndex(({ text }) => text.search(named) >= 0), places = new RegExp(`\\b${core}:\\w+`, 'g');
@@ -238,27 +238,27 @@ function renamed(given, at, name, written) {
 
 /** A hint, or one of the line that it means, where that is a row which lacks its ; alone; or that of a listing. */
 function rowHint(test, hint) {
-  if (/no line begins/.test(hint) && /^\s*push/m.test(test)) return 'hint: line 1: instructions alone';
+  if (/line \d+: (no line begins|this is (?!an as|a dis))/.test(hint) && isListing(test)) return 'hint: line 1: instructions alone';
   const [said, number] = /^hint: line (\d+): (?:no ; (?:or \||ends the row of cores)|a condition begins with|\w+ begins a row as in C)/.exec(hint) ?? [], lines = test.split('\n');
   const head = lines.findIndex(line => /^\s*P0\b/.test(line)), at = said?.includes('cores') ? head : number - 1, line = lines[at] ?? '';
   const isRow = head >= 0 && at >= head && cellsOf(line).length === cellsOf(lines[head]).length && /^\s*[a-z][\w\s|$[\],=]*$/i.test(line);
   return isRow ? `hint: line ${at + 1}: no ; ends this row ` : hint;
 }
 
-/** A test with a change of memory without LOCK as three instructions, by a free register of the core; else null. */
-function spread(test, at, [, ...three], named, cell) {
+/** A test with a cell as several instructions in as many rows, by a free register of the core; else null. */
+function spread(test, at, [, ...steps], named, cell) {
   const { before, cells, after } = programsIn(test) ?? {}, place = at - before?.length, core = cells?.[place]?.indexOf(cell) ?? -1;
   const column = cells?.map(row => row[core]) ?? [], free = freeRegister([...column, ...test.match(new RegExp(`\\b${core}:\\w+`, 'g')) ?? []].join(' '));
   if (core < 0 || !free) return null;
-  const become = three.map(text => text.replace(named, free)), now = [...column.slice(0, place), ...become, ...column.slice(place + 1).filter(text => text !== '')];
-  const rows = Array.from({ length: Math.max(cells.length, now.length) }, (_, row) => (cells[row] ?? cells[0].map(() => '')).with(core, now[row] ?? ''));
+  const become = steps.filter(Boolean).map(text => text.replace(named, free)), now = [...column.slice(0, place), ...become, ...column.slice(place + 1).filter(text => text !== '')];
+  const rows = times(Math.max(cells.length, now.length), row => (cells[row] ?? cells[0].map(() => '')).with(core, now[row] ?? ''));
   return { text: [...before, ...rows.map(row => ` ${row.join(' | ')} ;`), ...after].join('\n'), isOther: true, said: `P${core}: ${cell} became ${listed(become)}` };
 }
 
 /** A test with what its hint says, and what became of what; else null. */
 function repaired(test, told = '', written = test) {
   const hint = rowHint(test, told);
-  const [, number, said = ''] = /^hint: line (\d+): (.*)/.exec(hint) ?? [], at = number - (said.includes('cores in the line before') ? 2 : 1), lines = test.split('\n'), line = lines[at] ?? '';
+  const [, number, said = ''] = /^hint: line (\d+): (.*)/.exec(hint) ?? [], at = number - (said.includes('cores in the line before') ? 2 : said.startsWith('no ) closes') ? number - test.trimEnd().split('\n').length + 1 : 1), lines = test.split('\n'), line = lines[at] ?? '';
   const listing = LISTING.test(said) && plainListing(test, said);
   if (listing) return barredIn(listing) ? straight(listing) : listingAsTest(listing);
   if (FRAMELESS.test(said)) return framed(test);
@@ -266,29 +266,34 @@ function repaired(test, told = '', written = test) {
   if (said.includes('is a type') && untyped(test) !== test) return { text: untyped(test), said: 'items without types' };
   const [, foreign] = / is for (\w+): take/.exec(said) ?? [];
   if (foreign) return renamed(lines, at, foreign, written);
-  const three = THREE.exec(said), [, quoted] = /^'(.+?)':/.exec(inFull(said, line)) ?? [];
-  if (three) return spread(test, at, three, said.slice(-3), quoted);
-  const [, cell, other, isEnded] = CELL.exec(inFull(said, line)) ?? [], cells = cellsOf(line).filter(({ text }) => text === cell), [pattern, change] = REPAIRS.find(each => each[0].test(said)) ?? [];
+  const steps = STEPS.exec(said), [, quoted] = /^'(.+?)':/.exec(inFull(said, line)) ?? [];
+  if (steps) return spread(test, at, steps, steps[1] ? said.slice(-3) : steps[5] === 'MFENCE' ? 'none' : 'EAX', quoted);
+  const second = /begins a second instruction/.test(said) && cellsRefused(test, number, told)[0]?.text;
+  if (second) return spread(test, at, [, ...second.split(SECOND)], 'none', second);
+  if (/^this row has/.test(said)) return barsOf(lines, at).mended;
+  if (said.includes('is no location of this test: write')) return withCores(test);
+  const [, cell, other, isEnded] = CELL.exec(inFull(said, line)) ?? [], cells = cellsOf(line).filter(({ text }) => text === cell), [pattern, change] = [...REPAIRS, ...OTHER_REPAIRS].find(each => each[0].test(said)) ?? [];
   const inCell = part => (plainCell(part) === cell ? part.replace(part.trim(), () => other) : part), [from, to] = cells.length > 0 || !pattern ? [/[^|;]+/g, inCell] : change(pattern.exec(said));
   if (cells.length === 0 && !(pattern && from.test(line))) return null;
   const parts = cells.length > 0 ? [cell] : [...new Set(line.match(from))], isOther = !parts[0].toUpperCase().startsWith(other?.split(' ')[0]);
-  const become = cells.length > 0 ? () => other : to, became = part => (part.trim() === '' ? '; was added' : `${part.replace(/ +/g, ' ')} became ${typeof become === 'string' ? become : part.replace(from, become)}`);
+  const become = cells.length > 0 ? () => other : to, becomes = part => (typeof become === 'string' && !become.includes('$') ? become : part.replace(from, become)).trim();
+  const became = part => (part.trim() === '' ? `${to.trim()} was added` : `${part.replace(/ +/g, ' ').trim()} ${becomes(part) ? `became ${becomes(part)}` : 'was left out'}`);
   lines[at] = (isEnded ? line.replace(/;(?=.*[|;])/, '') : line).replace(from, to);
   return { text: lines.join('\n'), isOther, line: at + 1, cores: cells.map(({ core }) => `P${core}`), said: parts.map(became).join(', ') };
 }
 
-/** What places became, each kind once, in the order of lines: of many those with another instruction; of a listing by cores. */
+/** What places became, each kind once, by lines: of many those with another instruction; of a listing by cores. */
 function changesSaid(found, isListing) {
   const kinds = new Map();
   for (const { said, line, cores = [] } of found.toSorted((one, other) => Boolean(other.isOther) - Boolean(one.isOther))) kinds.set(said, [...(kinds.get(said) ?? (line ? [line] : [])), ...(isListing ? cores : line ? [line] : [])]);
   const all = [...kinds], more = all.splice(MOST_SAID).length;
-  return `${all.sort(([, [one = 0]], [, [other = 0]]) => one - other).map(([said, [, ...places]]) => (places.length === 0 ? said : `${isListing ? '' : places.length > 1 ? 'lines ' : 'line '}${listed([...new Set(places)])}: ${said}`)).join('; ')}${more > 0 ? `; and ${more} more` : ''}. Undo takes all back. `;
+  return `${all.sort(([, [one = 0]], [, [other = 0]]) => one - other).map(([said, [, ...places]]) => (places.length === 0 ? said : `${isListing ? '' : places.length > 1 ? 'lines ' : 'line '}${listed([...new Set(places)])}: ${said}`)).join('; ')}${more > 0 ? `; and ${more} more` : ''}. `;
 }
 
 /** A test's programs as cells, and the lines around them; null where a row isn't plain. */
 function programsIn(test) {
   const lines = test.split('\n'), [first, last] = spanOf(lines), rows = lines.slice(first, last + 1), cells = rows.map(line => cellsOf(line).map(each => each.text));
-  if (first < 0 || rows.some((line, at) => /\(\*|;.*;|^[^;]*$/.test(line) || cells[at].length !== cells[0].length)) return null;
+  if (first < 0 || last < first || rows.some((line, at) => /\(\*|;.*;|^[^;]*$/.test(line) || cells[at].length !== cells[0].length)) return null;
   return { before: lines.slice(0, first), cells, after: lines.slice(last + 1) };
 }
 
@@ -309,18 +314,21 @@ function conditionOver(test) {
   return asks.length > 0 ? `exists (${asks.join(' /\\ ')})\n` : '';
 }
 
-/** A test with all that is certain to be meant, and the status of its answer. */
+/** A test with all that is certain, and its answer's status. */
 function allRepaired(text, hint, options = { command: 'run' }) {
   const changes = [];
   let written = text; // with its frame
-  let status;
+  let quotes = new Map(); // of cells that were changed before they are quoted
+  let status = REFUSED;
   for (let found = repaired(text, hint, written); found !== null && changes.length < MOST_REPAIRED; found = repaired(text, hint, written)) {
     ({ text } = found);
     if (found.isFrame) written = text;
+    found.said = found.said.replace(/^.*?(?= became )/, cell => quotes.get(cell) ?? cell);
+    quotes = found.quotes ?? quotes;
     changes.push(found);
     ({ hint, status } = asked(options, text));
   }
-  return { text, changes, status };
+  return { text, changes, status, hint };
 }
 
 /** Writes what is certain to be meant, up to a mistake that leaves a choice: one edit. */
@@ -328,15 +336,16 @@ function writeRepairs() {
   const field = byId('test'), { options } = readSettings('run');
   notice.test = null; // what was said of it goes
   const isListing = LISTING.test(rowHint(field.value, bench.answer.hint)), { text, changes, status } = allRepaired(field.value, bench.answer.hint, options);
-  const isTest = isListing && status !== Tso.STATUS.refused, askedFor = isTest ? conditionOver(text) : '';
+  const isTest = status !== REFUSED && (isListing || (changes[0].isFrame && quantifierOf(text) === null)), askedFor = isTest ? conditionOver(text) : '';
+  const isLoose = aligned(field.value) !== field.value, isOne = isLoose && changes.length === 1 && changes[0].line;
   undoing.field = null;
   field.focus();
   field.select();
-  document.execCommand('insertText', false, aligned(isTest ? inOneForm(text) : text) + askedFor); // the field can undo it
-  const said = `Written: ${changesSaid(changes, isListing)}${askedFor && 'Write into exists what you ask for. '}`, isRefused = bench.answer?.status === Tso.STATUS.refused;
+  document.execCommand('insertText', false, (isOne ? text : aligned(isTest ? inOneForm(text) : text)) + askedFor); // the field can undo it
+  const said = `Written: ${isLoose && !isOne ? 'columns lined up; ' : ''}${changesSaid(changes, isListing)}Ctrl+Z takes it back. ${askedFor && 'Write into exists what you ask for. '}`, isRefused = bench.answer?.status === REFUSED;
   if (isRefused) focusRefusal();
   else notice.said = said + noticeOf(inputOf('sweep')); // while the test is the same
-  putText(document.querySelector('.noticed'), isRefused ? said : notice.said);
+  putText(query('.noticed'), isRefused ? said : notice.said);
 }
 
 /** A sentence with its code as code. */
@@ -345,29 +354,30 @@ const withCode = said => said === '' ? [] : said.split(/(\B'[^']+'(?=:| )|(?:\bL
 
 /** Marks what is refused, or nothing, and says it in plain words. */
 function markRefusal({ text, hint: given }) {
-  const test = byId('test').value, told = given ?? '', hint = rowHint(test, told), line = hint === told ? text : text.replace(/line \d+/, /line \d+/.exec(hint));
-  const place = (LISTING.test(hint) && barredIn(plainListing(test, hint))) || placeOfRefusal(line, hint), written = test.split('\n')[place?.line - 1] ?? '';
-  const said = inFull(hint, written), cell = place?.field === 'test' && place.line > spanOf(test.split('\n'))[0] ? cellAtFault(written, said) : null;
-  const before = place?.field === 'test' ? document.querySelector('.writing .noticed') : byId('given-part');
+  const test = testNow(), told = given ?? '', hint = rowHint(test, told), line = hint === told ? text : text.replace(/line \d+/, /line \d+/.exec(hint));
+  const listing = LISTING.test(hint) && plainListing(test, hint), made = allRepaired(test, hint), isMade = made.status !== REFUSED;
+  const place = (/no line begins a test|this is C\b/.test(hint) && strangeIn(test)) || (listing && ((!isMade && unreadIn(listing, made)) || barredIn(listing))) || placeOfRefusal(line, hint), written = test.split('\n')[place?.line - 1] ?? '';
+  const said = inFull(hint, written), head = spanOf(test.split('\n'))[0], cell = place?.field === 'test' && head >= 0 && place.line > head ? cellAtFault(written, said, () => cellsRefused(test, place.line, told)) : null;
+  const before = place?.field === 'test' ? query('.writing .noticed') : byId('given-part');
   if (before.nextElementSibling !== byId('told')) before.after(byId('told')); // next by Tab
-  const isBarred = place?.said !== undefined, isOffered = place?.field === 'test' && (isBarred || hint.includes('X86_64') ? (allRepaired(test, hint).status ?? Tso.STATUS.refused) !== Tso.STATUS.refused : repaired(test, hint) !== null);
+  const isOffered = place?.field === 'test' && (!place.said || listing) && made.changes.length > 0 && (isMade || !listing);
   const [, offered] = (isOffered && OFFERED.find(([theirs]) => theirs.test(hint))) || [];
   const plain = place?.said ?? (offered ? `Line ${place.line}: ${offered}.` : plainRefusal(place, cell, line, said)), [named] = /^(Order, l|L)ine \d+|/.exec(plain);
-  byId('plain').replaceChildren(...(named && [html('button', { type: 'button' }, named)]), ...withCode(plain.slice(named.length)));
-  byId('told').classList.toggle('by-hint', place?.line !== undefined);
+  fill(byId('plain'), ...(named && [html('button', {}, named)]), ...withCode(plain.slice(named.length)));
+  putClass(byId('told'), 'by-hint', place?.line !== undefined);
   for (const id of ['test', 'given']) drawLines(id, place?.field === id && place.line ? place.line : null);
   markCell(cell);
   for (const id of ['test', 'choices', 'given']) byId(id).ariaInvalid = place?.field === id;
   byId('remove-choices').hidden = !place?.word;
   byId('write-so').hidden = !isOffered;
-  byId('write-so').textContent = isBarred ? 'Leave these lines out' : LISTING.test(hint) ? 'Write it as a test' : 'Write it so';
+  offerRepairs(test, made, !isOffered ? '' : place.said ? 'Leave these lines out' : listing && 'Write it as a test');
 }
 
 /** Removes choices that are refused, which shows the machine again. */
 function removeChoices() {
   putChoices('');
   answerNow(true);
-  byId('choices').focus({ preventScroll: true });
+  focusOn(byId('choices'));
 }
 
-byId('plain').addEventListener('click', ({ target }) => target.matches('button') && focusRefusal());
+on(byId('plain'), 'click', ({ target }) => target.matches('button') && focusRefusal());

@@ -18,9 +18,10 @@ function putText(element, text) {
   if (element.textContent !== text) element.textContent = text;
 }
 
+/** An element; attributes that are a text alone are its class. */
 function make(namespace, tag, attributes, children) {
   const element = document.createElementNS(namespace, tag);
-  setAll(element, attributes);
+  setAll(element, typeof attributes === 'string' ? { class: attributes } : attributes);
   element.append(...children);
   return element;
 }
@@ -28,9 +29,31 @@ function make(namespace, tag, attributes, children) {
 const html = (tag, attributes, ...children) => make('http://www.w3.org/1999/xhtml', tag, attributes, children);
 const svg = (tag, attributes, ...children) => make('http://www.w3.org/2000/svg', tag, attributes, children);
 const byId = id => document.getElementById(id);
+const testNow = () => byId('test').value;
+const query = selector => document.querySelector(selector);
+const queryAll = selector => document.querySelectorAll(selector);
+const focused = () => document.activeElement;
+const ROOT = document.documentElement;
+
+/** Scrolls an element into sight, where it isn't there. */
+const bringNear = element => element.scrollIntoView({ block: 'nearest' });
+
+/** Gives the focus to what is there, without scrolling. */
+const focusOn = element => element?.focus({ preventScroll: true });
+
+/** An array of this length, by the place of each. */
+const times = (length, made) => Array.from({ length }, (_, at) => made(at));
+
+const fill = (element, ...children) => element.replaceChildren(...children);
+const putClass = (element, name, is) => element.classList.toggle(name, is);
+const boxOf = element => element.getBoundingClientRect();
+const putMessage = text => { byId('message').textContent = text; };
+
+/** Has an element do something at each event of a kind. */
+const on = (element, ...more) => element.addEventListener(...more);
 
 /** Has each of these do something when it is pressed, by its id. */
-const onPress = acts => Object.entries(acts).forEach(([id, act]) => byId(id).addEventListener('click', act));
+const onPress = acts => Object.entries(acts).forEach(([id, act]) => on(byId(id), 'click', act));
 
 /** Puts texts into a list, an item for each. The items before the first that differs stay. */
 function putItems(list, texts) {
@@ -52,6 +75,17 @@ function putChildren(element, children) {
 
 /** Switches a button off or on. It keeps the focus, so what it does has to look whether it is off; but no Tab leads to one that is off. */
 const putOff = (button, isOff) => setAll(button, { 'aria-disabled': isOff, tabindex: isOff ? -1 : 0 });
+
+/** Goes by arrow keys from button to button, which are one stop of Tab. */
+function goAmong(event, buttons) {
+  const at = buttons.indexOf(event.target), way = { ArrowRight: 1, ArrowDown: 1, ArrowLeft: -1, ArrowUp: -1 }[event.key];
+  if (at < 0 || !way || event.altKey) return;
+  event.preventDefault();
+  event.stopPropagation();
+  const next = buttons.at((at + way) % buttons.length);
+  for (const each of buttons) each.tabIndex = each === next ? 0 : -1;
+  next.focus();
+}
 
 /** An element that is drawn anew only where what it shows isn't what it showed. */
 class Part {

@@ -6,5 +6,5 @@ const isEmbedded = address => new URLSearchParams(address).get('embed') === '1';
 
 /** Goes by the address whether the page is part of another. */
 function putEmbedding(address) {
-  document.documentElement.classList.toggle('embedded', TEST_ADDRESS.test(address) && isEmbedded(address));
+  putClass(ROOT, 'embedded', TEST_ADDRESS.test(address) && isEmbedded(address));
 }

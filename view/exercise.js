@@ -4,11 +4,11 @@
 
 const MOST_ASKED = 400; // characters of the question
 
-/** The exercise that was opened: its test, what is asked, what the reader thinks, `can` or `cannot`, and what an answer
- * said of that thought; null where it isn't known yet; and whether an answer was seen, or a run did it (`isSolved`). */
+/** The exercise that was opened: its test, what is asked, what the reader thinks (`can`, `cannot`), what an answer said of that, or null; and whether
+ * an answer was seen or a run did it (`isSolved`). */
 const exercise = { test: null, asked: '', thought: null, judged: null, isSolved: false };
 
-const isExercise = () => exercise.test !== null && exercise.test === byId('test').value && lesson.told === null;
+const isExercise = () => exercise.test !== null && exercise.test === testNow() && !isLesson();
 const isUnanswered = () => isExercise() && exercise.thought === null;
 
 function putExercise(told) {
@@ -20,20 +20,21 @@ function putExercise(told) {
 
 const exerciseToKeep = () => (isExercise() ? [['exercise', exercise.asked], ...(exercise.thought === null ? [] : [['thought', exercise.thought]])] : []);
 
-/** Shows what is asked, with the two answers, what the reader said and what came of a try (`after`); and hides the ways to the answer until one is given. */
+/** Shows what is asked, the two answers, what the reader said and what came of a try (`after`); hides the ways to the answer until one is given. */
 function showExercise(after = '') {
+  if (byId('exercise-form').dataset.test !== testNow()) byId('exercise-form').hidden = true;
   const isOn = isExercise(), { asked, thought } = exercise;
-  document.documentElement.classList.toggle('unanswered', isUnanswered());
+  putClass(ROOT, 'unanswered', isUnanswered());
   byId('exercise').hidden = !isOn;
   if (!isOn) return;
   putText(byId('exercise-asked'), asked === '' ? 'Exercise: what do you think?' : `Exercise: ${asked}`);
-  for (const button of byId('exercise-answers').querySelectorAll('button')) {
+  for (const button of queryAll('#exercise-answers [data-thought]')) {
     putOff(button, thought !== null); // the one that was pressed keeps the focus
     button.setAttribute('aria-pressed', String(button.dataset.thought === thought));
   }
   const isOpen = thought !== null && !exercise.judged, said = thought === null ? '' : exercise.judged ?? `You said: ${thoughtSaid()}.`;
   const parts = [(said + (after || (thought === null ? 'Try it below, then say what you think.' : ''))).trim()];
-  if (isOpen) parts.push(' ', html('button', { type: 'button', class: 'quiet', 'data-ask': 'why' }, 'Why can or can\'t it be?'), after ? '' : ' tells whether that is so.');
+  if (isOpen) parts.push(after ? ' ' : ' See whether that is so: ', html('button', { 'data-ask': 'why' }, 'Why can or can\'t it be?'));
   putChildren(byId('exercise-thought'), parts.map(part => part.nodeType ? part : new Text(part)));
 }
 
@@ -62,7 +63,7 @@ function judgeThought(can) {
   if (quantifierOf(exercise.test) === 'forall') return [];
   const isRight = can === (exercise.thought === 'can');
   exercise.judged = isRight ? `You said ${thoughtSaid()}, and so it is.` : `You said: ${thoughtSaid()}. ${can ? 'It can' : 'It can\'t'}.`;
-  return [html('strong', { class: isRight ? 'judged' : 'judged wrong' }, exercise.judged), ' '];
+  return [html('strong', isRight ? 'judged' : 'judged wrong', exercise.judged), ' '];
 }
 
 const nameIn = test => /^X86\s+(.*\S)/m.exec(test)?.[1];
@@ -77,6 +78,14 @@ function questionOf(test) {
   return quantifierOf(test) === 'forall' ? `Does each run end with ${end}?` : `Can a run end with ${end}?`;
 }
 
+/** With what a reason begins in a lecture. */
+function supposed(test, canBe) {
+  const { proposition, programs } = readTest(test), wanted = wantedWords(proposition), isForall = quantifierOf(test) === 'forall', read = wanted && !isForall && loadsSentence(wanted, programs);
+  if (!canBe && read) return `Suppose ${read}.`;
+  const end = isForall ? 'otherwise' : endWords(wanted);
+  return canBe ? `A run ${read ? `in which ${read}` : `that ends ${end}`}, arrow by arrow.` : `Suppose a run ends ${end}.`;
+}
+
 /** The task over a test, as a question: where it is to explain what is counted, and that is in sight, why it is so. */
 function proposedQuestion(test) {
   const own = TASKS[`${nameIn(test)} ${readTest(test).proposition}`];
@@ -87,7 +96,8 @@ function beginExercise() {
   const form = byId('exercise-form');
   byId(byId('run').hidden ? 'way-back' : 'saves').append(form, byId('list-part'));
   form.hidden = false;
-  byId('exercise-said').value = questions.get(byId('test').value) ?? proposedQuestion(inputOf('sweep'));
+  form.dataset.test = testNow();
+  byId('exercise-said').value = questions.get(testNow()) ?? proposedQuestion(inputOf('sweep'));
   byId('exercise-said').focus();
   byId('exercise-said').select();
 }
@@ -109,7 +119,7 @@ const questions = new Map();
 
 /** The exercise's address, with what the form asks, or did. */
 function exerciseNow() {
-  if (!byId('exercise-form').hidden) questions.set(byId('test').value, byId('exercise-said').value.trim());
+  if (!byId('exercise-form').hidden) questions.set(testNow(), byId('exercise-said').value.trim());
   return exerciseAt(currentAddress());
 }
 
@@ -125,14 +135,14 @@ function saveExercises() {
 }
 
 Object.assign(SAVES, { exercise: beginExercise, exercises: saveExercises });
-byId('exercise-form').addEventListener('submit', async event => {
+on(byId('exercise-form'), 'submit', async event => {
   event.preventDefault();
   const saved = saveExercise();
   byId('exercise-form').hidden = true;
   await saved;
-  document.querySelector('.page-saved:not(:empty)')?.append(' ', listButton({ 'data-see': '', class: 'quiet' }, 'See it as a student'));
+  query('.page-saved:not(:empty)')?.append(' ', listButton({ 'data-see': '', class: 'quiet' }, 'See it as a student'));
 });
-document.addEventListener('click', ({ target }) => {
+on(document, 'click', ({ target }) => {
   if (target.dataset?.thought !== undefined) answerExercise(target.dataset.thought);
   if (target.matches('[data-see]')) sayDone('.page-saved', window.open(`${location.pathname}#${exerciseNow()}`) ? 'Opened in a new tab.' : 'No new tab opened.');
 });

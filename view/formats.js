@@ -5,17 +5,19 @@
 /** The commands that answer in both forms. */
 const IN_BOTH = ['run', 'outcomes', 'counts', 'why'];
 
-/** The two forms of the answer that is shown, as far as they are known, and the task that asks for one. */
-const formats = { texts: { printed: null, json: null }, task: null };
+/** The forms of the answer that is shown, as far as they are known, and the task that asks for one. */
+const formats = { texts: { printed: null, json: null, herd: null }, task: null };
 
-const formatNow = () => (byId('as-json').checked ? 'json' : 'printed');
+const formatNow = () => (byId('as-json').checked ? 'json' : byId('as-herd').checked ? 'herd' : 'printed');
 
 /** Forgets the forms of another answer; `known` is what the module has said. */
 function putFormats(known) {
   formats.task?.stop();
-  Object.assign(formats, { texts: { printed: null, json: null, ...known }, task: null });
+  Object.assign(formats, { texts: { printed: null, json: null, herd: null, ...known }, task: null });
   byId('formats').hidden = !IN_BOTH.includes(currentCommand());
-  if (byId('formats').hidden) byId('as-printed').checked = true;
+  const isHerds = /^\{"depth":\d+,"observation":\{/.test(known.json);
+  byId('as-herd').parentElement.hidden = !isHerds;
+  if (byId('formats').hidden || (!isHerds && byId('as-herd').checked)) byId('as-printed').checked = true;
   byId('report-copied').textContent = '';
   putReportKey('');
   showWordsLine(currentCommand());
@@ -26,11 +28,23 @@ const limitMet = () => JSON.parse(formats.texts.json ?? '{}').unfinished?.states
 
 /** Asks for a form that isn't known: of a run at once, of a search in a worker. */
 async function askFormat(name) {
+  if (name === 'herd') return inFormOfHerd(JSON.parse(formats.texts.json), inputOf('outcomes'));
   const command = currentCommand(), { options } = readSettings(command), input = searchedInput(command);
   const question = { ...options, states: limitMet() ?? options.states ?? Tso.DEFAULTS.states, json: name === 'json' };
   if (command === 'run') return asked(question, drive.isOn ? driveInput() : input).text;
   const task = formats.task = beginTask(bench.bytes, [question], input), [{ text }] = await task.answers;
   return text;
+}
+
+/** What herd7 calls a condition. */
+const ASKED_OF_HERD = { exists: 'Allowed', '~exists': 'Forbidden', forall: 'Required' };
+
+/** All outcomes in the form of herd7, of which tools read the lines of states. */
+function inFormOfHerd({ test, states, observation: { word, true: yes, false: no }, verdict }, input) {
+  const [, asks, proposition] = /^\s*(~\s*exists|exists|forall)\b([^]*)/m.exec(input.replace(/\(\*[^]*?\*\)/g, '')), quantifier = asks.replace(/\s/g, '');
+  const lines = states.map(({ values }) => Object.entries(values).map(([name, value]) => `${name.includes(':') ? name : `[${name}]`}=${value};`).join(' '));
+  return `${[`Test ${test} ${ASKED_OF_HERD[quantifier]}`, `States ${states.length}`, ...lines, verdict, 'Witnesses', `Positive: ${yes} Negative: ${no}`,
+    `Condition ${quantifier} ${proposition.trim().replace(/\s+/g, ' ')}`, `Observation ${test} ${word} ${yes} ${no}`].join('\n')}\n`;
 }
 
 /** JSON in lines, one for each member and for each part of a list of objects. */
@@ -57,7 +71,14 @@ async function showFormat() {
   if (formats.texts !== texts || formatNow() !== name) return;
   byId('report').textContent = laidOut(texts[name], name);
   putReportKey(texts[name]);
-  putText(byId('report-note'), [...byId('states').querySelectorAll('.ways-said')].map(said => said.textContent).join(' '));
+  putText(byId('report-note'), besideNote(name));
+}
+
+/** What the page adds to an answer, which no text of it has; and what is counted in the form of herd7. */
+function besideNote(name) {
+  if (name === 'herd') return 'It counts outcomes, where herd7 counts executions.';
+  const added = byId('states').querySelector('.alone-said, .sequential') ? ['What the page says of sequential consistency, and of cycles, isn\'t in this text.'] : [];
+  return [...added, ...[...queryAll('#states .ways-said')].map(said => said.textContent)].join(' ');
 }
 
 /** What stands in the field of the report, as a file. */
@@ -66,19 +87,9 @@ function saveFormat() {
   saveText(fileName(testName(), isJson ? '.json' : '.txt'), textShown(), isJson ? 'application/json' : 'text/plain');
 }
 
-/** Copies the report's field. */
-async function copyReport() {
-  try {
-    await navigator.clipboard.writeText(textShown());
-    sayDone('#report-copied', 'Copied.');
-  } catch {
-    sayDone('#report-copied', 'This browser doesn\'t let the page copy: mark the text, and copy it.');
-  }
-}
-
-byId('formats').addEventListener('change', () => {
+on(byId('formats'), 'change', () => {
   byId('report-copied').textContent = '';
   showReport();
   showWordsLine(currentCommand());
 });
-byId('copy-report').addEventListener('click', copyReport);
+on(byId('copy-report'), 'click', () => copyText(textShown(), '#report-copied', 'Copied.', 'mark the text, and copy it'));

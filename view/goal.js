@@ -83,8 +83,7 @@ function isMet(history, count, condition, quantifier) {
   return isTrue === null ? null : isTrue !== (quantifier === 'forall');
 }
 
-/** The registers whose last word is there already and is another than is wanted: no instruction that is left names them. So no end of this run
- * can be as is wanted. CMPXCHG writes EAX without naming it. */
+/** The registers whose last word is another than is wanted: no instruction that is left names them. CMPXCHG writes EAX without naming it. */
 function lostPlaces(history, count, places) {
   const { cores } = history.machineAfter(count);
   const isLast = ({ core, register }) => history.programs[core] !== undefined && !history.programs[core].slice(cores[core].place)
@@ -138,7 +137,7 @@ function moreOfTry(history, count, met) {
 function taskWords(quantifier, proposition, { isDone, isShown }, can) {
   const task = `${CLAIMS[quantifier]}${taskSentence(testName(), proposition, quantifier, firstHistory().programs)}`;
   if (isDone) return `✓ Task: ${task}`;
-  return isRefuted() ? `${task} It can't be done: ${quantifier === 'forall' ? 'each' : 'no'} run ends so.` : `${isShown ? '▷ Shown by the answer:' : `☐ ${taskTitle(can)}`} ${task}`;
+  return isRefuted() ? `${task} It can't be done: ${quantifier === 'forall' ? 'each' : 'no'} run ends so.` : `${isShown ? '▷ Shown by the answer:' : taskTitle(can)} ${task}`;
 }
 
 const lectured = { key: null }; // of which test the question stands there
@@ -147,16 +146,17 @@ const lectured = { key: null }; // of which test the question stands there
 function showQuestion(asked = drive.test) {
   if (!isLecture()) return;
   const own = isOfEntry(false) ? ownNameOf(taught.list[playlist.at]) : '';
-  const test = isExercise() || lesson.told !== null ? '' : asked, key = `${test}${byId('run').className}${own}`;
-  if (lectured.key !== key) putText(byId('asked-line'), test === '' ? '' : own || proposedQuestion(test).replace(/^.*: w/, 'W'));
+  const test = isExercise() || isLesson() ? '' : asked, lines = test && linesSaid(), key = `${test}${byId('run').className}${own}${lines}`;
+  if (lectured.key === key) return;
+  putText(byId('asked-line'), test === '' ? '' : own || proposedQuestion(test).replace(/^.*: w/, 'W'));
+  setAll(byId('test-line'), { 'data-lines': lines });
   lectured.key = key;
 }
 
-/** Shows the task, and what came of a try, which stands at the answers in an exercise. `run` is the run, where it has ended. After a try that missed
- * what may be impossible the page offers to say why. */
+/** Shows the task, and what came of a try: in an exercise at the answers, of one that missed with an offer to say why. `run`: the run that ended. */
 function showTask(history, count, run) {
   showQuestion();
-  const { proposition } = history, quantifier = quantifierOf(drive.test), hasTask = proposition !== null && quantifier !== null && lesson.told === null, isAsked = isAskedTwice();
+  const { proposition } = history, quantifier = quantifierOf(drive.test), hasTask = proposition !== null && quantifier !== null && !isLesson(), isAsked = isAskedTwice();
   byId('task').hidden = !hasTask || isAsked;
   placeAnswers(hasTask && isExercise() && !isAsked);
   if (!hasTask) return showExercise();
@@ -166,15 +166,15 @@ function showTask(history, count, run) {
   if (isDone) judgeThought(true);
   const isOpen = isExercise() && !exercise.isSolved, can = isOpen ? null : canBe(), after = afterTry(history, count, met, quantifier, can), { classList } = byId('task');
   classList.toggle('met', isDone);
-  byId('exercise').classList.toggle('met', isDone);
+  putClass(byId('exercise'), 'met', isDone);
   classList.toggle('short', !isExercise() && (CLAIMS[quantifier] + taskSentence(testName(), proposition, quantifier, history.programs)).length <= SHORT_TASK);
   classList.toggle('asked', met !== true && possible.isAsked && !isOpen); // so that its title doesn't change before one's eyes
   putText(byId('task-said'), isAsked ? '' : taskWords(quantifier, proposition, { isDone, isShown: met === true && !isDone }, met ? true : can));
-  const offers = (isDone || (met === false && can !== true && !isExercise())) && !isUnanswered() && document.querySelector('#commands [value=why]') !== null;
+  const offers = (isDone || (met === false && can !== true && !isExercise())) && !isUnanswered() && query('#commands [value=why]') !== null;
   showExercise(after);
   putText(byId('task-after'), isExercise() ? '' : after);
   putText(byId('task-more'), isExercise() ? '' : moreOfTry(history, count, met));
   byId('task-why').hidden = !offers;
   putText(byId('task-why'), !offers ? '' : isDone ? 'Why can it be?' : 'Why can or can\'t it be?');
-  byId('task-why').classList.toggle('quiet', isDone);
+  putClass(byId('task-why'), 'quiet', isDone);
 }

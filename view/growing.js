@@ -44,13 +44,13 @@ function mostRows(programs) {
 function drawStores(layout, core, text) {
   const { left, lane, inner } = layout, room = lane - inner - 8, place = { x: left(core) + inner + 4, 'text-anchor': 'start' };
   const font = noteFont(layout), said = NOT_YET.find(words => words.length * font * GLYPH <= room) ?? NOT_YET[1];
-  return svg('g', { class: 'not-yet' }, fittingText({ class: 'faint', ...place, y: 15 }, font, said, room), fittingText({ ...place, y: 35 }, font + 2, text, room));
+  return svg('g', 'not-yet', fittingText({ class: 'faint', ...place, y: 15 }, font, said, room), fittingText({ ...place, y: 35 }, font + 2, text, room));
 }
 
 /** The load part of a locked instruction whose store part is to come, in the strip. */
 function drawHalf(layout, half) {
   const { x, width } = layout.boxOf({ ...half, index: 0 });
-  return svg('g', { class: 'half' }, svg('rect', { class: 'frame half', x, y: 5, width, height: STRIP - 10, rx: 4 }),
+  return svg('g', 'half', svg('rect', { class: 'frame half', x, y: 5, width, height: STRIP - 10, rx: 4 }),
     fittingText({ x: x + width / 2, y: 21 }, 13, labelOf(half, 12), width - 8));
 }
 
@@ -73,7 +73,7 @@ class Layer {
   /** Where `isUnder`, what comes later goes under what is there: a store's way goes over the bars of later ones. */
   constructor(layout, isUnder) {
     Object.assign(this, { layout, isUnder, groups: [], sheets: [] });
-    this.element = html('div', { class: 'layer' });
+    this.element = html('div', 'layer');
   }
 
   fill(row, parts) {
@@ -88,7 +88,7 @@ class Layer {
 
   /** Adds the sheet of the piece that begins with this row. */
   addSheet(first) {
-    const groups = Array.from({ length: PIECE }, () => svg('g', {})), inOrder = this.isUnder ? groups.toReversed() : groups;
+    const groups = times(PIECE, () => svg('g', {})), inOrder = this.isUnder ? groups.toReversed() : groups;
     groups.forEach((group, at) => { this.groups[first + at] = group; });
     const sheet = this.sheets[first / PIECE] = drawSheet(this.layout, this.layout.top(first), PIECE * this.layout.row, ...inOrder);
     this.element[this.isUnder ? 'prepend' : 'append'](sheet);
@@ -130,15 +130,14 @@ class GrowingPicture {
     this.strip = svg('g', {}, ...this.stores.map(({ element }) => element), this.half);
   }
 
-  /** Under the layers the lanes with the mark of the last step, and over them what goes on down. Both are as high as the picture may become, so that
-   * no step has all of it laid out anew. */
+  /** Under the layers the lanes and the last step's mark, over them what goes on down: as high as the picture may become, so no step lays all anew. */
   makeSheets() {
     const { history, layout } = this, { width, lane, left } = layout;
     const height = layout.top(mostRows(history.programs)) + STRIP;
     this.band = svg('rect', { class: 'band', x: 0, width, 'fill-opacity': 0.5 });
     this.cursor = svg('line', { class: 'cursor', x1: 0, x2: width });
     const lanes = coresOf(history).map(core => svg('rect', { class: 'lane', x: left(core), y: 1, width: lane, height }));
-    const names = svg('g', { class: 'names' }, ...coresOf(history).map(core => drawName(layout, core, 23)));
+    const names = svg('g', 'names', ...coresOf(history).map(core => drawName(layout, core, 23)));
     this.lowest = drawSheet(layout, HEAD, height - HEAD, this.band, names, ...lanes);
     this.lowest.classList.add('lowest');
     this.highest = drawSheet(layout, HEAD, height - HEAD, this.waiting, this.strip, this.cursor);
@@ -160,10 +159,10 @@ class GrowingPicture {
   /** For paper: what has come, or where that doesn't go on one page pieces of it, of whole rows. */
   onPaper() {
     this.hideAbove(0);
-    const { label, bottom, layout: { width, top } } = this, rows = this.rows.length, above = this.element.getBoundingClientRect().top - HEAD;
-    const placed = this.parts.map(part => [part, part.getBoundingClientRect()]);
+    const { label, bottom, layout: { width, top } } = this, rows = this.rows.length, above = boxOf(this.element).top - HEAD;
+    const placed = this.parts.map(part => [part, boxOf(part)]);
     const piece = rows > PAPER.whole ? PAPER.piece : Math.max(1, rows);
-    return Array.from({ length: Math.max(1, Math.ceil(rows / piece)) }, (_, at) => {
+    return times(Math.max(1, Math.ceil(rows / piece)), at => {
       const y = top(at * piece), end = (at + 1) * piece < rows ? top((at + 1) * piece) : bottom;
       const parts = placed.filter(([part, box]) => !part.matches('.names') && box.top - above < end && box.bottom - above > y).map(([part]) => part.cloneNode(true));
       const height = end - y + HEAD;
@@ -193,7 +192,7 @@ class GrowingPicture {
     this.size(rows, before, history.hasEnded(count));
     this.showBars(waiting.flat());
     this.stores.forEach((part, core) => part.show(waiting[core].map(store => `${store.location}=${store.value}`).join(' ')));
-    if (half !== this.halfShown) this.half.replaceChildren(...(half ? [drawHalf(this.layout, half)] : []));
+    if (half !== this.halfShown) fill(this.half, ...(half ? [drawHalf(this.layout, half)] : []));
     this.halfShown = half;
   }
 

@@ -57,8 +57,7 @@ function comparedSentence(core, read, written, eax, from) {
 /** An operation's name with the value on its right, as it is written between the two. */
 const OPERATIONS = { ADD: '+', XADD: '+', INC: '+', SUB: '−', DEC: '−', AND: 'AND', OR: 'OR', XOR: 'XOR' };
 
-/** How a word was made by an instruction that computes, as ` (3 + 2)`; empty where none computed it. `old` is the word that it changes,
- * and `registers` are those before it. */
+/** How an instruction computed a word, as ` (3 + 2)`, else empty. `old` is the word that it changes, `registers` are those before it. */
 function computedWords(instruction, old, registers) {
   const [, name, operand] = /^(?:LOCK\s+)?([A-Z]+)\s+[^,]+(?:,\s*(\S+))?$/i.exec(instruction) ?? [];
   if (name === undefined) return '';
@@ -83,8 +82,7 @@ function movedSentence(core, instruction, registers, moved) {
   return `P${core}'s ${instruction} set ${moved.replace(' ', ' and ')}${computedWords(instruction, old, registers)}.`;
 }
 
-/** What was committed, in one sentence, by an instruction of a core as it was before it. Where no caches are shown (`isPlain`), a word that
- * isn't in its own buffer is in memory. */
+/** What was committed, in one sentence, by an instruction of a core as it was before it. `isPlain`: no caches are shown, only memory. */
 function committedSentence(step, isPlain, instruction, { registers, buffer }) {
   const { choice, entries } = step, supplied = isPlain && step.supplied !== 'buffer' ? step.supplied && 'memory' : step.supplied;
   const from = supplied ? ` from ${sourceName(supplied)}` : '';

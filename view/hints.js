@@ -1,10 +1,11 @@
 'use strict';
 
-// Hints in the page's own words: here are fields and buttons, and no command line. And listings of compilers as tests.
+// Hints in the page's words: it has fields and buttons, and no command line. And listings as tests.
 
 const IN_WORDS_OF_THE_PAGE = [
   [/no test: give one on standard input, as in: tso [a-z]+ < FILE/, 'there is no test yet: write one, or take one of the examples'],
-  ['no choices: give some after a line ====, or use sweep or outcomes, which take none', 'there are no choices yet: press step and drain of the cores, or write some'],
+  [/^hint: no choices: give some .*/, ''], // the machine has its buttons
+  [/the choices end before the test.*/, all => (countChoices(choicesText()) > MOST_STEPS ? all : 'the run isn\'t finished: step on in the machine')],
   ['no order: give one after a line ====, as run prints it; --help says more', 'there is no order yet: write one, as the answer of run has it as text'],
   ['put a line ==== between the test and the choices', 'choices stand in their own field'],
   ['put a line ==== between the test and the order', 'an order stands in its own field'],
@@ -15,11 +16,11 @@ const IN_WORDS_OF_THE_PAGE = [
   [/no ; ends (?:this row .*|(the row .*): a row.*)/, '$1 needs a ; at its end'],
   [/; leave out the ; behind it.*/, ', and leave out the ; behind it'],
   [/(\w+) is no instruction: write (exists|forall)/, '“$1” isn\'t read: write $2'],
-  [/this is a disassembly, .*/, 'this is a disassembly'],
   [/there is no stack.*/, '$&. Or compile with -O1'],
-  [/ ?[(;] ?the tool import .*/, ''],
+  [/ ?[(;] ?the tool import .*|: it is written \[x\]$/m, ''],
+  ['give tso the text of a test: ', 'write '],
   [/X86_64 tests.*/, 'this is a test of X86_64: write X86, EAX for rax, and [x] for a register with x in it'],
-  [/(C is a language|this is C): .*/, 'this is C, and here are x86 instructions: “From C and C++” below says which'],
+  [/(C is a language|this is C): .*/, 'this is C: write one line for each thread, as x=1; r0=y'],
   [/(; stands behind )?\bfence( isn't read|:).*/i, 'fence: write MFENCE'],
   [/'[^']*\[(\w+)\][^']*' is one too many: .* (\d+) locations/, (all, name, most) => `${name} is the ${Number(most) + 1}th location: at most ${most}`],
   [', and items have no types here', ', and items of { } have none'],
@@ -30,26 +31,15 @@ const IN_WORDS_OF_THE_PAGE = [
   [/(\d[sd]) \w+ (\((?:no store|at end|held)\))/g, '$1 $2'],
 ];
 
-/** Why a line is refused, by the program's name for it. */
-const FAULTS = {
-  NoHeader: 'the first line has to be X86, a space, and a name', Unclosed: 'a comment, the initial state or a row doesn\'t end',
-  BadToken: 'something here can\'t be read',
-  BadInit: 'this doesn\'t fit into the initial state', BadHeaderRow: 'the row of cores isn\'t written as P0 | P1 ;',
-  WrongCells: 'this row doesn\'t have one instruction for each core',
-  BadInstruction: 'this instruction can\'t be read', BadNumber: 'a number is over 4294967295', TwiceInit: 'something gets its value twice',
-  NoSuchCore: 'there is no such core',
-  TooLarge: 'something is over its limit', BadCondition: 'this doesn\'t fit into the condition', Trailing: 'something comes after the end of the test',
-};
-
-/** Why a word of the choices is refused, by the same. */
+/** Why a word of the choices is refused, by the program's name for it. */
 const CHOICE_FAULTS = {
   NoSuchCore: word => `there is no core ${parseInt(word)}`, BadWord: () => 'this is no choice', TooMany: () => 'more choices than this aren\'t taken',
 };
 
-/** What was asked last for a notice: the test, and what the hint said. */
+/** The last notice: of which test, and what it says. */
 const notice = { test: null, said: '' };
 
-/** What a condition says of registers that no instruction of their core writes. */
+/** What is said of a condition's registers that no instruction of their core writes. */
 function unwrittenSaid(test) {
   const { programs, proposition, start } = readTest(test), named = [...(proposition ?? '').matchAll(/(\d)\s*:\s*([A-Z]{3})/g)];
   const unwritten = named.filter(([, core, register]) => !programs[core].flatMap(writtenBy).includes(register));
@@ -66,11 +56,11 @@ function strayNames(test) {
 const straySaid = test => strayNames(test).map(name => `${name} is no location of this test, so it stays 0.`).join(' ');
 
 /** The same before an answer. */
-const strayPart = test => [straySaid(test)].filter(Boolean).map(said => html('p', { class: 'stray' }, said));
+const strayPart = test => [straySaid(test)].filter(Boolean).map(said => html('p', 'stray', said));
 
 const lineOfCondition = test => test.split('\n').findIndex(text => quantifierOf(text) !== null) + 1;
 
-/** What is said of a condition that names what nothing writes: the hint of a short sweep. */
+/** What is said of a condition that names what nothing writes. */
 function noticeOf(test) {
   if (notice.test === test) return notice.said;
   const [found = ''] = /the condition names .*, which no instruction [^]*stays \d+/.exec(asked({ command: 'sweep', seeds: 1 }, test).hint) ?? [];
@@ -80,11 +70,11 @@ function noticeOf(test) {
   return notice.said;
 }
 
-/** The refusal of a condition that has a register without its core, as r0, which nothing before it names; else undefined. */
+/** The refusal of a condition with a register without its core, as r0, that nothing before it names. */
 function refusalOfBare(test) {
   const at = lineOfCondition(test), lines = test.split('\n'), before = lines.splice(0, at - 1).join();
   const name = at > 0 && lines.join().match(/(?<![\w:])r\d+(?=\]?\s*=)/gi)?.find(each => !new RegExp(`\\b${each}\\b`).test(before));
-  return name ? { status: Tso.STATUS.refused, text: `Refused test line ${at} BadCondition`, hint: `hint: line ${at}: ${name} is no location of this test: write the register with its core, as 0:EAX` } : undefined;
+  return name ? { status: REFUSED, text: `Refused test line ${at} BadCondition`, hint: `hint: line ${at}: ${name} is no location of this test: write the register with its core, as 0:EAX` } : undefined;
 }
 
 /** A hint of a limit, a sentence a line; of many choices the first twelve. */
@@ -97,72 +87,182 @@ function pageHint(hint) {
   return /more than \d+ (?:states|cases)/.test(named) ? linesOfLimit(named) : named;
 }
 
-const LISTING = /^(hint: line \d+: )?(instructions alone|this is an assembler|this is a disassembly)/;
-const FRAMELESS = /no rows stand before|ends before its initial state|stands before the initial state|no line begins a test|no header/;
-const OFFERED = [[FRAMELESS, 'these rows stand alone. The button writes above them what a test has: its name, { } and P0 | P1 ;'], [LISTING, 'this is a listing. The button makes a test of it'], [/X86_64/, 'this is a test of X86_64. The button makes it one of X86, with registers of 32 bits']];
+const LONGEST_ASKED = 20000; // letters of a test that is asked for each cell of a row
+
+/** The first cell that is refused alone as its line is, or what stands for it in a row of too many or too few. */
+function cellsRefused(test, number, hint) {
+  const lines = test.split('\n'), line = lines[number - 1], cells = cellsIn(line.replace(/;\s*$/, ''));
+  if (hint.includes(': this row has')) return barsOf(lines, number - 1).marked;
+  const isAlone = ({ core, from, text }) => asked({ command: 'run' }, lines.with(number - 1, `${'|'.repeat(core)}${line.slice(from, from + text.length)}${'|'.repeat(cells.length - 1 - core)};`).join('\n')).hint === hint;
+  return test.length > LONGEST_ASKED ? [] : [cells.find(each => each.text !== '' && isAlone(each)) ?? []].flat();
+}
+
+/** What stands before a second instruction of a cell; bars around none. */
+const SECOND = /(?<=[^\s|])(?<!\bLOCK)\s+(?:[,;!/\\lI]\s+)?(?=LOCK\s|MFENCE\b|(?:MOV|XCHG|XADD|CMPXCHG|ADD|SUB|INC|DEC|AND|OR|XOR|NEG|NOT)\s)/gi, BARS = /\|\s*(?:\||(?=;?\s*$))/g;
+
+/** Of a row with too many or too few cells what is marked, and the test with the right bars, or null where these aren't certain. */
+function barsOf(lines, at) {
+  const line = lines[at], cells = cellsOf(line), cores = cellsOf(lines[spanOf(lines)[0]] ?? '').length, isMore = cells.length > cores;
+  const places = isMore ? BARS : /;.*;/.test(line) ? /;(?=.*;)/g : SECOND, [place] = line.matchAll(places);
+  const text = line.replace(places, bars => (isMore ? bars.slice(1).trim() : bars === ';' ? '|' : ' | '));
+  const last = isMore ? { ...cells.at(-1), core: undefined } : [], marked = places === SECOND ? cells.filter(each => each.text.search(SECOND) > 0) : place ? { from: place.index, text: place[0] } : last;
+  return { marked: [marked].flat(), mended: text !== line && cellsOf(text).length === cores ? { text: lines.with(at, text).join('\n'), isOther: true, line: at + 1, said: isMore ? 'one | left out' : '| between cells' } : null };
+}
+
+/** A test whose condition has cores and registers for names in C, as r0; null where it has others, or not all. */
+function withCores(test) {
+  const lines = test.split('\n'), at = lineOfCondition(test) - 1, names = inC(readTest(`${lines.slice(0, at).join('\n')}\n`).programs)?.names ?? [], changed = new Map();
+  const places = new Map(names.flatMap((each, core) => Object.entries(each).map(([register, name]) => [name, `${core}:${register}`])));
+  const text = lines.map((line, row) => (row < at ? line : line.replace(/(?<![\w:[])r\d+(?=\s*=)/gi, name => {
+    changed.set(name, places.get(name.toLowerCase()));
+    return changed.get(name);
+  }))).join('\n');
+  return [...changed.values()].includes(undefined) || ![...places.values()].every(place => text.split('\n').slice(at).join().includes(place)) ? null : { text, line: at + 1, said: [...changed].map(pair => pair.join(' became ')).join(', ') };
+}
+
+/** Of the row of cores and of conditions. */
+const OTHER_REPAIRS = [
+  [/^no \| stands before P/, () => [/(?<=P\d) +(?=P\d)/g, ' | ']],
+  [/^\| stands only between|^'\|' stands twice/, () => [BARS, bars => bars.slice(1).trim()]],
+  [/^(P\d): write (P\d) in its place: cores/, ([, given, meant]) => [new RegExp(`${given}(?=\\s*;)`), meant]],
+  [/^no \) closes/, () => [/\s*$/, ')']],
+  [/^'([);.])' stands after the end/, ([, sign]) => [new RegExp(`\\S*\\s*\\${sign}\\s*$`), part => part.trim().slice(0, -1).trim()]],
+  [/a core is its number alone/, () => [/\bP(\d\s*:\s*\w+)/gi, '$1']],
+  [/stands without \$/, () => [/=\s*\$(?=\d)/g, '=']],
+  [/ isn't 1 is written ~/, () => [/((?:\d\s*:\s*)?\[?\w+\]?)\s*(?:!=|<>)\s*(\d+)/g, '~($1=$2)']],
+  [/written after its core and a colon/, () => [/\b(\d)\s*[.;, ]\s*(E[A-DS][IX])\b/gi, '$1:$2']],
+];
+
+const LISTING = /^(hint: line \d+: )?(instructions alone|this is an? (dis)?assembl)/;
+const FRAMELESS = /no rows stand before|before (?:its|the) initial state|no line begins a test|no header|as papers have it|this is C\b/;
+const OFFERED = [[FRAMELESS, 'this isn\'t a whole test yet'], [LISTING, 'this is a listing. The button makes a test of it'], [/X86_64/, 'this is a test of X86_64. The button makes it one of X86']];
+/** Says what a button without a name writes: a cell on it, or all before it. */
+function offerRepairs(test, { text, changes }, name) {
+  const was = test.split(/[|;\n]/), [cell, ...more] = text.split(/[|;\n]/).filter((each, at) => each !== was[at]), count = changes.length, isOne = count === 1 && cell && !more[0];
+  byId('write-so').textContent = name || (isOne ? `Write ${cell.trim()}` : `Write it so${count > 1 ? `: ${count} changes` : ''}`);
+  fill(byId('to-write'), ...withCode(name !== false || isOne ? '' : `Changes: ${changesSaid(changes, true).replace(/(\[[^;(]* became (LOCK|[^;]* and )[^;]*)(?=;|\. $)/g, '$1 (another meaning)').replaceAll(' became', ' becomes').replaceAll(' was ', ' is ')}`));
+}
+
 const ADDRESS = /^\s*[\da-f]+:\s*(?:[\da-f]{2}(?:\s+|$))*/; // and bytes
 const PLACE = /-?\w+(?=\(%rip\))|\[rip ?[+-] ?\w+\]/;
 const MOST_SAID = 4; // kinds of changes
 
-/** Rows of instructions, or of C, with what stands above them in a test; null where they aren't plain rows of some cores. */
-function framed(test) {
-  const lines = test.split('\n').filter(line => line.trim() !== ''), head = /^X86/.test(lines[0] ?? '') ? lines.shift() : 'X86 mine';
-  const asked = lines.findIndex(line => quantifierOf(line) !== null), last = asked < 0 ? lines.length : asked;
-  const rows = lines.slice(0, last).filter(line => !/^\s*P\d/.test(line)).map(line => line.replace(/;\s*$/, '').split('|').map(cell => cell.replace(/;\s*$/, '').trim()));
-  if (rows.length === 0 || rows[0].length < 2 || rows.some(({ length }) => length !== rows[0].length) || /[{}]/.test(test)) return null;
-  const above = rows[0].map((_, core) => `P${core}`);
-  return { text: [head, '{ }', ...[above, ...rows].map(cells => ` ${cells.join(' | ')} ;`), ...lines.slice(last), ''].join('\n'), isOther: true, isFrame: true, said: 'what stands above the rows was added' };
+/** Lines of a listing, whatever names it has. */
+const OF_LISTING = /^[ \t]*(lock\s|[.#]|(c?mov|x?add|cmp|xchg|sub|xor|test|lea|push|pop|ret|j|[lms]fence)[a-z]{0,4}(?!\S))|^.*:\s*(#.*)?$/gim;
+const isListing = text => !text.includes('|') && 2 * text.match(OF_LISTING)?.length > text.match(/.*\S/g).length;
+
+/** A statement of C that has an instruction. */
+const STATEMENT = new RegExp('^(?:(?:\\w+ +)*\\*?\\w+ *= *(?:\\*?\\w+|CALL)|m?fence|CALL)$'.replaceAll('CALL', '[\\w.:]*(?:store|load|exchange|fetch|fence|once|_mb|synchronize)\\w*\\([^()]*\\)'), 'i');
+
+/** The statements of threads, each in a line, or all in one with bars between. */
+const statementsIn = lines => lines.flatMap(line => line.split(lines.length === 1 ? /\|+/ : '||')).map(line => line.replace(/^[\w ]+:(?!:)/, '').split(';').map(each => each.trim()).filter(Boolean));
+
+/** These as rows; else null. */
+function threadsIn(lines) {
+  const threads = statementsIn(lines), most = Math.max(...threads.map(({ length }) => length));
+  return most > 1 && threads.flat().every(each => STATEMENT.test(each)) ? times(most, at => threads.map(each => each[at] ?? '')) : null;
 }
 
-/** A listing; a disassembly without addresses and bytes, with the names of its comments and relocations. */
-const plainListing = (text, hint) => (!hint.includes('disassembly') ? text : text.split('\n').map((line, at, lines) => {
+/** What is said of a statement in a line of threads that isn't understood. */
+function strangeIn(test) {
+  const [line, other = 'exists'] = test.trim().split(/\s*\n\s*/);
+  const strange = /;.*\||\|.*;\s*[^\s;]/.test(line) && !/[{}]/.test(test) && quantifierOf(other) !== null && statementsIn([line]).flat().find(each => !STATEMENT.test(each));
+  return strange ? { field: 'test', line: 1, said: `Line 1: “${strange}” isn't understood. Write x = 1, r0 = y or fence, with ; between them and | between threads.` } : undefined;
+}
+
+/** A text with each function, or what follows each label, in a line. */
+const inThreads = test => (/^[\w ]+:\s*$/m.test(test) ? test.replace(/\n(?!\s*([\w ]+:\s*$|[~/\\(]|exists|forall|$))/gm, ';')
+  : test.replace(/(?:[^{}=]|= *0|\{0?\})*\)\s*\{([^{}]+)\}/gy, (all, body) => `${body.replace(/\s+/g, ' ')}\n`));
+
+/** Rows of instructions, or of C, as a test; null where they aren't plain rows of some cores. */
+function framed(test) {
+  const plain = inThreads(test), lines = plain.split('\n').filter(line => line.trim() !== ''), head = /^X86/.test(lines[0] ?? '') && lines.shift();
+  const asked = lines.findIndex(line => quantifierOf(line) !== null), last = asked < 0 ? lines.length : asked;
+  const named = lines.slice(0, last).filter(line => !/^\s*(P|Thread )\d\s*[|;]/i.test(line)).map(line => line.replace(/:=/g, '=').replaceAll('std::', '')), rows = threadsIn(named) ?? named.map(line => line.replace(/;\s*$/, '').split(/\|+/).map(cell => cell.replace(/;\s*$/, '').trim()));
+  if (!(rows[0]?.length > 1) || rows.some(({ length }) => length !== rows[0].length) || /[{}]/.test(plain) || strangeIn(test)) return null;
+  const above = rows[0].map((_, core) => `P${core}`);
+  return { text: [head || 'X86 mine', '{ }', ...[above, ...rows].map(cells => ` ${cells.join(' | ')} ;`), ...lines.slice(last), ''].join('\n'), isOther: true, isFrame: true, said: `${head ? '' : 'a name, '}{ }${named.length < last ? '' : ' and the row of cores'} added` };
+}
+
+/** A listing with locations as in a test: N_x for N::x, x_8 for x+8. */
+const withNames = text => text.replace(/(?<=\w)::(?=\w.*[^:\s]\s*$)/gm, '_').replace(/\[rip ?\+ ?([a-z_]\w*)/gi, '$1[rip').replace(/(\w)(\[rip) ?\+ ?(\d+)|(\w)\+(\d+)(?=\(%rip)/g, '$1$4_$3$5$2');
+
+/** A listing; a disassembly without addresses and bytes, with names of comments and relocations. */
+const plainListing = (text, hint) => (!hint.includes('disassembly') ? withNames(text) : withNames(text).split('\n').map((line, at, lines) => {
   const [, name] = /<(\w+)(?:@[\w.@]*)?>\s*$/.exec(line) ?? /R_X86\w+\s+(\w+)/.exec(lines.slice(at + 1, at + 3)) ?? [];
   const plain = line.replace(ADDRESS, '').replace(/\b0x[\da-f]+/g, Number);
   return name === undefined ? plain : plain.replace(PLACE, place => name + (place.startsWith('[') ? '[rip]' : ''));
 }).join('\n'));
 
-/** The first line of a listing that can't stand in a test, and what is said of all such, or null. */
+/** The first line of a listing that no test can have, and what is said of all such; else false. */
 function barredIn(listing) {
-  const all = [...listing.matchAll(/^[ \t]*((?:j|loop|call|set)\w*|(?:test|cmp)[bwlq]?)(?!\S)/gim)].map(({ 1: word, index }) => [countLines(listing.slice(0, index)), word]);
-  const said = listed(all.slice(0, MOST_SAID).map(([line, word]) => `line ${line} (${word})`)).slice(1);
-  const nameless = listing.search(/\b\d+[([]%?rip|\[rip ?[+-] ?\d/);
-  const stack = listing.search(/-\d+[([]%?rbp|\[rbp ?-/);
-  if (stack >= 0) return { field: 'test', line: countLines(listing.slice(0, stack)), said: 'This listing uses a stack, and a test has none: compile with -O1.' };
-  if (all.length > 0) return { field: 'test', line: all[0][0], said: `L${said}: there are no jumps, compares, calls or flags (set) here. Without such lines this can be a test, of the one way that takes no jump.` };
-  return nameless < 0 ? null : { field: 'test', line: countLines(listing.slice(0, nameless)), said: 'This listing has no names of locations: paste what gcc -S writes, or objdump -dr of an object file.' };
+  const lineAt = index => countLines(listing.slice(0, index)), placed = (index, said) => index >= 0 && { field: 'test', line: lineAt(index), said };
+  const all = [...listing.matchAll(/^[ \t]*((?:j|loop|call|set|cmov)\w*|(?:test|cmp)[bwlq]?)(?!\S)/gim)], said = listed(all.slice(0, MOST_SAID).map(({ 1: word, index }) => `line ${lineAt(index)} (${word})`)).slice(1);
+  return placed(listing.search(/-\d+[([]%?rbp|\[rbp ?-/), 'This listing uses a stack, and a test has none: compile with -O1.')
+    || placed(listing.search(/\b\d+[([]%?rip|\[rip ?[+-] ?\d/), 'This listing has no names of locations: paste what gcc -S writes, or objdump -dr of an object file.')
+    || placed(all[0]?.index, `L${said}: there are no jumps, compares, calls or flags (set) here. Without such lines this can be a test, of the one way that takes no jump.`);
 }
 
-const JUMP = /^\s*(?:j(?!mp)\w+|(?:test|cmp)[bwlq]?)(?!\S)/i, FLAG = /^\s*(set\w+\s|movz\w+\s+%?\w+, ?%?\w+$)/i;
+const JUMP = /^\s*(?:j(?!mp)\w+|cmov\w+|(?:test|cmp)[bwlq]?)(?!\S)/i, LABEL = /^(?=[^\s.#].*:\s*(?:#.*)?$)/m;
 
 /** A listing as a test of its straight way: no jumps, no function that calls others. Null where it can't be one. */
 function straight(listing) {
-  const left = [], lines = listing.split(/^(?=[^\s.#].*:)/m).map(part => {
+  const left = [], lines = listing.split(LABEL).map(part => {
     if (!/^\s*call/m.test(part) || (!/^\W*main\b/.test(part) && part.includes('rip'))) return part;
-    left.push(/\w[^:>]*/.exec(part)[0]);
+    left.push(/\w.*(?=>?:)/.exec(part)[0]);
     return part.replace(/.+/g, '');
   }).join('').split('\n');
-  let hasEnded = false; // what stands behind its return is another way
+  let hasEnded = false, flag = null; // behind its return is another way; the register of set
   const found = listingAsTest(lines.map((line, at) => {
-    hasEnded = !/^[^\s.#].*:/.test(line) && (hasEnded || /^\s*ret/.test(line));
-    if (JUMP.test(line) || (FLAG.test(line) && /^\s*set/m.test(`${lines[at - 1]}\n${line}`) && /^\s*ret/.test(lines.slice(at).find(each => !FLAG.test(each)))) || (hasEnded && /^\s*(?!ret|nop|data|cs |xchg\s+%?ax)[a-z]/.test(line))) left.push(`line ${at + 1}`);
+    const isEnd = LABEL.test(line), made = /^\s*set\w+\s+%?([a-d])l/.exec(line)?.[1];
+    hasEnded = !isEnd && (hasEnded || /^\s*ret/.test(line));
+    if (made || isEnd || hasEnded) flag = made ? new RegExp(`\\b[re]?${made}[xl]\\b`) : null;
+    if (made || JUMP.test(line) || (flag?.test(line) && /^\s*movz\w+\s+%?e?(.)[xl], ?%?e?\1[xl]$/.test(line)) || (hasEnded && /^\s*(?!ret|nop|data|cs |xchg\s+%?ax)[a-z]/.test(line))) left.push(`line ${at + 1}`);
+    else if (flag?.test(line)) return 'set';
     else if (!hasEnded) return line;
     return '';
   }).join('\n'));
   return found && { ...found, said: `${found.said}; left out: ${listed(left)}: the way that takes no jump or call` };
 }
 
+/** An instruction with 32 bits for 64 or 8, but for the stack and addresses. */
+const inWords = line => (/\b[re]?[sb]p\b/.test(line) ? line : line.replace(/(QWORD|BYTE)(?= PTR)/i, 'DWORD').replace(/^movz(bl|x)(?=.*( PTR|\(%rip))/i, 'mov').replace(/^((?:lock )?(?!sub )[a-z]+)[bq] /i, '$1l ')
+  .replace(/(?<![([]%?)\b(?:r([a-d]x|[sd]i)|([a-d])l)\b(?![([])/gi, (all, whole, letter) => `e${whole ?? `${letter}x`}`));
+
+/** A line without comment and spaces. */
+const plainLine = line => line.replace(/(#|;|\/\/).*/, '').replace(/\s+/g, ' ').trim();
+
+/** What isn't read of a listing, by what was made of it. */
+function unreadIn(listing, { text, hint, changes }) {
+  const [, number, why] = /^hint: line (\d+): ([^]*)/.exec(pageHint(hint)) ?? [], row = text.split('\n')[number - 1] ?? '';
+  const cell = cellAtFault(row, inFull(hint, row)), line = listing.split('\n').findIndex(each => inWords(plainLine(each)) === cell?.text) + 1;
+  return changes.length > 0 && { field: 'test', line: line || 1, said: `${line ? `Line ${line} of t` : 'T'}his listing isn't read: ${why}.` };
+}
+
 /** A listing as a test: what follows each label is a core's. Null where it can't be one. */
 function listingAsTest(listing) {
-  const written = listing.replace(/\[rip ?\+ ?(\w+)\]/gi, '$1[rip]'), places = /\b(?:r\d+|[re]?(?:[a-d]x|[sd]i|[sb]p)|[a-d][lh])(?=\(%rip\)|\[rip\]|:\s+\.(?:long|int|quad))/gi; // named as registers are
-  const other = name => (written.includes(`_${name}`) ? other(`_${name}`) : `_${name}`), text = written.replace(places, other);
+  const places = /\b(?:r\d+|[re]?(?:[a-d]x|[sd]i|[sb]p)|[a-d][lh])(?=\(%rip\)|\[rip\]|:\s+\.(?:long|int|quad))/gi; // named as registers are
+  const other = name => (listing.includes(`_${name}`) ? other(`_${name}`) : `_${name}`), text = listing.replace(places, other);
   const cores = [[]], left = /^$|^\.|^(ret|endbr64|nop|leave|push|pop|R_X86|cs nop|data16|hlt|xchg %?ax, ?%?ax)|file format|^mov.*(bp\W.*sp|sp\W.*bp)/i;
   if (barredIn(text)) return null;
-  for (const line of text.split('\n').map(each => each.replace(/(#|;|\/\/).*/, '').replace(/\s+/g, ' ').trim()).filter(each => !left.test(each))) {
+  const given = text.split('\n').map(plainLine).filter(each => !left.test(each)), lines = given.map(inWords);
+  for (const line of lines) {
     if (/:$/.test(line)) cores.push([]);
     else if (cores.at(-1).push(line) && !/^[a-z]/i.test(line)) return null;
   }
   const programs = cores.filter(core => core.length > 0), most = Math.max(...programs.map(core => core.length));
   const start = [...text.matchAll(/^(\w+):\s+\.(?:long|int|quad)\s+([1-9]\d*)\s*(?:#.*)?$/gm)].map(([, name, word]) => ` ${name}=${word};`).join('');
   const row = at => ` ${programs.map((core, number) => (at < 0 ? `P${number}` : core[at] ?? '')).join(' | ')} ;\n`;
-  return most > 0 ? { text: `X86 pasted\n{${start} }\n${Array.from({ length: most + 1 }, (_, at) => row(at - 1)).join('')}`, isOther: true, said: `a test of ${programs.length} core${programs.length === 1 ? '' : 's'}${[...new Set(written.match(places))].map(name => `, location ${name} became ${other(name)}`).join('')}` } : null;
+  return most > 0 ? { text: `X86 pasted\n{${start} }\n${times(most + 1, at => row(at - 1)).join('')}`, isOther: true, said: `a test of ${programs.length} core${programs.length === 1 ? '' : 's'}${[...new Set(listing.match(places))].map(name => `, location ${name} became ${other(name)}`).join('')}${`${lines}` === `${given}` ? '' : '; 64 or 8 bits became 32: a word has 32 here'}` } : null;
+}
+
+/** A test of X86_64 as one of X86, with locations for addresses; null where such a register has other uses. */
+function narrowed(test) {
+  const plain = untyped(test), { before, cells, after } = programsIn(plain) ?? {}, ITEM = /(\d):(\w+)\s*=\s*&?([a-z_]\w*)\s*;?[ \t]*/gi, items = [...(before?.join('\n').matchAll(ITEM) ?? [])];
+  for (const row of cells ?? []) for (const [, core, name, place] of items) row[core] = row[core]?.replace(new RegExp(`([([])%?${name}([)\\]])`, 'gi'), `$1${place}$2`);
+  if (items.some(([, core, name]) => new RegExp(`\\b[re]?${name.slice(1)}\\b`, 'i').test([...cells.map(row => row[core]), ...after]))) return null;
+  const short = text => text.replace('X86_64', 'X86').replace(/\br([a-d]x|[sd]i)\b/gi, (all, rest) => `E${rest.toUpperCase()}`);
+  const text = cells ? [before.join('\n').replace(ITEM, ''), ...cells.map(row => ` ${row.join(' | ')} ;`), ...after].join('\n') : plain;
+  const was = programsIn(test)?.cells.flat() ?? [], types = [...new Set(/\{([^}]*)/.exec(test)?.[1].match(/\b[a-z_]\w*(?=\s+\*?[\w:]+\s*[;=])/gi))];
+  return { text: short(text), isOther: true, quotes: new Map(cells?.flat().map((cell, at) => [short(cell), was[at]])), said: `X86_64 became X86, with registers of 32 bits${items.length > 0 ? '; addresses became locations' : ''}${types.length > 0 ? `; declarations (${listed(types)}) were left out` : ''}` };
 }

@@ -27,8 +27,7 @@ function freeTrack(waiting) {
 
 const lastWrite = (order, location) => order.findLast(entry => isWrite(entry) && entry.location === location);
 
-/** What a history comes to after one more entry of a core's step: the order, the stores that wait, the load part that waits, and how many bars
- * have to have room beside one another. */
+/** What a history comes to after one more entry: the order, the stores and the load part that wait, and how many bars stand beside one another. */
 function taken(told, entry, step, core) {
   const { order, tracks } = told, own = told.waiting[core], index = order.length;
   const waits = stores => ({ waiting: told.waiting.with(core, stores) });
@@ -49,16 +48,9 @@ function taken(told, entry, step, core) {
 
 const sourceIn = (order, load, step, own) => (step.forwarded ? own.findLast(store => store.location === load.location) : lastWrite(order, load.location));
 
-/**
- * The steps of a machine, and what they come to: the order so far, of which each entry has beside it what a picture shows
- * (`source`, `passed`, and of a store `wait` and `track`). A store's time in the buffer is exact here, since a trace tells when it
- * went in. The load part of a locked instruction stands in the order as soon as its store part does, directly before it.
- *
- * Each of `moments` is what stood after so many steps: the length of the order (`rows`), for each core the stores that wait
- * (`waiting`), and the load part that waits for its store part (`half`), or null.
- *
- * A history is a value: one more step, or fewer, makes another. An entry that two of them have in the same place is the same object.
- */
+/** The steps of a machine, and the order so far, each entry with what a picture shows (`source`, `passed`, of a store `wait`, which is exact here, and
+ * `track`). A locked instruction's load part stands directly before its store part. Each of `moments` is what stood after so many steps: the
+ * order's length (`rows`), the waiting stores (`waiting`), and the load part that waits for its store part (`half`), or null. */
 class History {
   /** The history of a machine at its start. */
   constructor(options, { programs, proposition, start }) {
@@ -108,8 +100,8 @@ class History {
 /** A machine's history under the choices of an input: the module's answer to `trace`, or a sentence that says why there is none. */
 function historyOf(options, input) {
   const { status, text } = asked({ ...options, command: 'trace', json: true }, input);
-  if (status === Tso.STATUS.refused && text.includes(' TooMany')) return { tooMany: true };
-  if (status !== Tso.STATUS.good && status !== Tso.STATUS.unended) return {};
+  if (status === REFUSED && text.includes(' TooMany')) return { tooMany: true };
+  if (status !== GOOD && status !== UNENDED) return {};
   const told = readTrace(text);
   return { history: told.steps.reduce((history, step) => history.with(step), new History(options, told)) };
 }

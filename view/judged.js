@@ -35,7 +35,7 @@ function checkSentence({ letter, fault, named: [first, second], due }) {
 /** An order that was refused: a sentence, and the order with the named entries marked. */
 function refusedOrder(check, order) {
   const entries = order.split('\n').map(line => line.trim()).filter(line => /^P\d+:\d+ /.test(line));
-  const items = entries.map(entry => (check.named.includes(entry) ? html('li', { class: 'named' }, html('mark', {}, entry), ' ◀ this one') : html('li', {}, entry)));
+  const items = entries.map(entry => (check.named.includes(entry) ? html('li', 'named', html('mark', {}, entry), ' ◀ this one') : html('li', {}, entry)));
   return [html('p', { role: 'status' }, checkSentence(check)), html('ol', { class: 'order', 'aria-label': 'The order, with what breaks the axiom marked' }, ...items)];
 }
 
@@ -47,7 +47,7 @@ function protocolTable(text) {
   const rows = lines.map(([, state, onRead, supplies, memory, onWrite, supplies2, memory2, write, evict]) => html('tr', {},
     html('th', { scope: 'row' }, withMeaning({ class: `state state-${state}` }, state, state)),
     ...[seen(onRead, supplies, memory), seen(onWrite, supplies2, memory2), write === 'bus' ? 'asks for the bus (GetM)' : `becomes ${write}, without the bus`,
-      evict === 'dirty' ? 'is written back to memory' : 'leaves without a write-back'].map(words => html('td', { class: 'prose' }, words))));
+      evict === 'dirty' ? 'is written back to memory' : 'leaves without a write-back'].map(words => html('td', 'prose', words))));
   const fills = `A line that no other cache has comes in as ${alone}. A line that another cache has comes in as ${shared}.`;
   const titles = ['A copy in', 'when another core reads (GetS)', 'when another core writes (GetM)', 'when its own core writes', 'when it has to leave'];
   return [html('p', {}, fills), tableOf(`The protocol ${protocol.toUpperCase()}`, titles, rows)];
@@ -56,6 +56,6 @@ function protocolTable(text) {
 /** Shows beside a report what it says, where it is one of these. */
 function showJudged(command, { status, text }) {
   const check = command === 'check' || command === 'witness' ? readCheck(text) : null;
-  if (check) byId('states').replaceChildren(...refusedOrder(check, byId('given').value));
-  else if (command === 'tables' && status === Tso.STATUS.good) byId('states').replaceChildren(...protocolTable(text));
+  if (check) fill(byId('states'), ...refusedOrder(check, byId('given').value));
+  else if (command === 'tables' && status === GOOD) fill(byId('states'), ...protocolTable(text));
 }

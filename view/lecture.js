@@ -2,25 +2,59 @@
 
 // The mode for a lecture hall: the whole screen, larger type, and only what is taught.
 
-const isLecture = () => document.documentElement.classList.contains('lecture');
+const isLecture = () => ROOT.classList.contains('lecture');
+
+/** Where a lecture was ended, whether nothing was done since, and whether Escape asks to end this one. */
+const lastLecture = { list: null, isJust: false, isAsked: false };
+const ASKED_TWICE = 2000; // milliseconds in which a second Escape ends a lecture
+
+const isToGoOn = () => taught.list.length > 0 && lastLecture.list === taught.list;
+
+/** Notes where a lecture is ended; after its end it begins anew. */
+function noteEnded() {
+  const isIn = taught.list.length > 0 && !isLesson() && onward() !== undefined;
+  Object.assign(lastLecture, { list: isIn ? taught.list : null, at: playlist.at, address: currentAddress(), many: drawnCycle()?.shown ?? shownInTurn(outcomesInTurn()), prepared: { ...prepared }, isJust: isIn });
+}
+
+function goOnWithLecture({ at, address, many, prepared: run }) {
+  if (currentAddress() !== address) openTest(address);
+  if (drive.isOn && !/&at=/.test(address)) goTo(drive.words.length);
+  playlist.at = at;
+  Object.assign(prepared, run);
+  if (drawnCycle()) sheet.cycle.show(many);
+  else showInTurn(many);
+  drawList();
+}
+
+function forgetJustEnded() {
+  if (!lastLecture.isJust) return;
+  lastLecture.isJust = false;
+  drawBar();
+}
 
 function nameLecture(button) {
   setAll(button, { 'aria-pressed': String(isLecture()) });
-  button.textContent = isLecture() ? 'End the lecture' : taught.list.length > 0 ? 'Start the lecture' : 'Lecture mode';
+  button.textContent = isLecture() ? 'End the lecture' : isToGoOn() ? 'Go on with the lecture' : taught.list.length > 0 ? 'Start the lecture' : 'Lecture mode';
   return button;
 }
 
-const lectureButton = () => nameLecture(html('button', { type: 'button', 'data-lecture': '' }));
+const lectureButton = () => nameLecture(html('button', { 'data-lecture': '' }));
 
 function putLecture(isOn) {
-  document.documentElement.classList.toggle('lecture', isOn);
-  document.querySelectorAll('[data-lecture]').forEach(nameLecture);
+  if (!isOn && isLecture()) noteEnded();
+  putClass(ROOT, 'lecture', isOn);
+  if (isOn) Object.assign(lastLecture, { isJust: false, isAsked: false });
+  queryAll('[data-lecture]').forEach(nameLecture);
   if (isOn) byId('test-part').open = byId('about').open = false;
   showTestLine(currentCommand());
   if (shown.run || drive.isOn) redraw();
   if (drive.isOn) showDrive();
-  if (!drive.isOn && document.querySelector('.reason, .states-sheet')) showQuestion(inputOf('sweep'));
+  if (!drive.isOn && query('.reason, .states-sheet')) showQuestion(inputOf('sweep'));
   sheet.cycle?.show(isOn ? 0 : sheet.cycle.shown); // a lecture begins without arrows
+  if (isOn) {
+    showInTurn(0);
+    notePrepared();
+  } else layOutcomes();
   noteVisit();
   keepList();
   drawBar();
@@ -28,14 +62,22 @@ function putLecture(isOn) {
   scrollTo(0, 0);
 }
 
+/** Escape, which some clickers send, ends a lecture by a second press alone. */
+function askToEnd(isAsked = true) {
+  Object.assign(lastLecture, { isAsked });
+  showFoot();
+  if (isAsked) setTimeout(askToEnd, ASKED_TWICE, false);
+}
+
 /** Begins or ends the mode: a list at its first test, a whole run at its start. Some browsers give no whole screen. */
 async function toggleLecture() {
-  const isOn = !isLecture();
+  const isOn = !isLecture(), isOnward = isOn && isToGoOn() && !isLesson();
   putLecture(isOn);
-  if (isOn && taught.list.length > 0 && lesson.told === null) openListed(0);
-  if (isOn && drive.isOn && lesson.told === null && drive.count === drive.words.length) goTo(0);
+  if (isOnward) goOnWithLecture(lastLecture);
+  else if (isOn && taught.list.length > 0 && !isLesson()) openListed(0);
+  if (isOn && !isOnward && drive.isOn && !isLesson() && drive.count === drive.words.length) goTo(0);
   try {
-    if (isOn) await document.documentElement.requestFullscreen();
+    if (isOn) await ROOT.requestFullscreen();
     else if (document.fullscreenElement) await document.exitFullscreen();
   } catch {
     // it stays in its window
@@ -64,24 +106,79 @@ function clickLesson(isOn) {
 const SCROLLED = 0.8; // of the window's height, where a clicker has nothing to step
 const BELOW = 16; // pixels below a sheet that needn't be in sight
 
-/** Whether what is shown was asked for in the middle of a run. */
-const isInRun = () => !isOfEntry() && ownRun.kept !== null && ownRun.kept.count < countChoices(ownRun.kept.choices);
+/** The run that a lecture came to, with its test and settings: other choices lead back to it, once. */
+const prepared = { test: null, settings: null, text: '', words: [] };
+
+const notePrepared = () => Object.assign(prepared, { beside: drive.beside, caches: cachesView.wanted, hasReason: isWhyNext(), test: drive.isOn ? testNow() : null, settings: JSON.stringify(changedSettings()), text: choicesText(), words: drive.words });
+
+/** Whether a run of the same machine has other choices than the prepared one. */
+const isStrayed = ({ test, settings, choices }) => test === prepared.test && settings === prepared.settings && choices !== prepared.text && !beginWith(choices.trim().split(/\s+/), prepared.words);
+
+function backToPrepared() {
+  const { words } = prepared, at = words.findIndex((word, each) => word !== drive.words[each]);
+  takeBranch({ words, count: at });
+  if (!beginWith(drive.words, words)) prepared.test = null; // it can't be taken: a clicker goes on all the same
+}
+
+/** What came into sight hides the prepared run's reason. */
+function backToView() {
+  cachesView.wanted = prepared.caches;
+  putBeside(JSON.stringify(prepared.beside));
+  prepared.hasReason = isWhyNext(); // else it would go on so for ever
+}
+
+/** Whether one would come back to the middle of a run, or to another than the prepared one. */
+function isInRun() {
+  const run = ownRun.shown ?? ownRun.kept;
+  return !isOfEntry() && run !== null && ((!run.isOver && run.count < countChoices(run.choices)) || isStrayed(run));
+}
+
+const MOST_IN_TURN = 8; // outcomes that come one by one
+
+/** The parts of a lecture's outcomes, which come in turn: each row, or many at once; then the answer. */
+function outcomesInTurn() {
+  const all = selector => [...byId('states').querySelectorAll(selector)], rows = drive.isOn || isLesson() ? [] : all('.states-sheet tbody tr');
+  if (rows.length === 0) return [];
+  const [first, ...others] = rows.length > MOST_IN_TURN ? [rows] : rows.map(row => [row]);
+  return [[...first, ...all('.alone-said')], ...others, all('.slide-said > :not(.asked), .never')];
+}
+
+/** A lecture asks before its outcomes, and has what is sought last, not first. */
+function layOutcomes() {
+  const body = query('#states .states-sheet tbody'), place = query('#states .slide-said > .asked'), asked = isLecture() && place ? questionOf(inputOf('sweep')) : '';
+  if (place) putText(place, asked === byId('asked-line').textContent ? '' : asked && `${asked} `);
+  body?.[isLecture() && body.rows.length <= MOST_IN_TURN ? 'append' : 'prepend'](...body.querySelectorAll('.met'));
+}
+
+const shownInTurn = parts => parts.filter(([part]) => !part.matches('.later')).length;
+
+/** Shows so many parts of outcomes, or all. */
+function showInTurn(count = Infinity) {
+  if (count === 0) layOutcomes();
+  outcomesInTurn().forEach((part, at) => part.forEach(each => putClass(each, 'later', at >= count)));
+}
 
 const drawnCycle = () => (sheet.cycle?.last > 1 && sheet.cycle.element.isConnected && !drive.isOn ? sheet.cycle : null);
 
 /** Whether why comes after a run: where no entry shows it, nor caches are shown, of which it tells nothing. */
 const isWhyNext = () => drive.isOn && !(isOfEntry() && isListed('why')) && firstHistory().proposition !== null && !showsCaches(drivenMachines()) && !isExercise() &&
-  document.querySelector('#commands [value=why]') !== null;
+  query('#commands [value=why]') !== null;
 
 /** What PageDown does next, as the foot says it, and how: a step of what is shown, or what comes after it. */
 function onward() {
   const cycle = drawnCycle(), { isOn, count, words } = drive, at = placeNow() + 1, next = toGoThrough()[at];
   if (cycle && cycle.shown < cycle.last) return [cycle.shown < cycle.closed ? `shows arrow ${cycle.shown + 1} of ${cycle.closed}` : 'shows all arrows', () => cycle.move('next')];
-  if (lesson.told !== null) return ['the lesson goes on', () => clickLesson(true)];
+  if (isLesson()) return ['the lesson goes on', () => clickLesson(true)];
+  const parts = outcomesInTurn(), many = shownInTurn(parts), last = parts.length - 1;
+  if (many <= last) return [many === last ? 'shows the answer' : last === 1 ? 'shows the outcomes' : `shows outcome ${many + 1} of ${last}`, () => {
+    showInTurn(many + 1);
+    parts[many][0].scrollIntoView({ block: 'center' });
+  }];
   if (isOn && count < words.length) return [`shows step ${count + 1} of ${words.length}`, () => moveDriven('forward')];
-  if (isOn && !isAtEnd(drive) && otherBranches().length > 0) return ['back to the prepared run', () => takeBranch(0)];
-  if (!isOn && !cycle && scrollY + innerHeight < document.documentElement.scrollHeight - BELOW) return ['scrolls on', () => scrollBy(0, SCROLLED * innerHeight)];
+  if (isOn && isStrayed({ ...snapshotNow(), choices: drive.words.join(' ') })) return ['back to the prepared run', backToPrepared];
+  if (!isOn && !cycle && scrollY + innerHeight < ROOT.scrollHeight - BELOW) return ['scrolls on', () => scrollBy(0, SCROLLED * innerHeight)];
   if (!isOn && isInRun()) return ['the run goes on', backToRun];
+  if (isOn && prepared.hasReason && !isWhyNext()) return ['back to the prepared view', backToView];
   if (isWhyNext()) return ['the reason, by arrows', askWhy];
   return next && [saidOfNext(next), () => openListed(at)];
 }
@@ -89,9 +186,11 @@ function onward() {
 function backward() {
   const cycle = drawnCycle();
   if (cycle?.shown > cycle?.least) return cycle.move('back');
-  if (lesson.told !== null) return clickLesson(false);
+  if (isLesson()) return clickLesson(false);
   if (drive.isOn && drive.count > 0) return moveDriven('back');
   if (scrollY > 0 && !drive.isOn) return scrollBy(0, -SCROLLED * innerHeight);
+  const many = shownInTurn(outcomesInTurn());
+  if (many > 0) return showInTurn(many - 1);
   return drive.isOn || isOfEntry() ? openBefore() : backToRun();
 }
 
@@ -111,6 +210,7 @@ function saidOfNext(entry) {
 }
 
 function footSaid() {
+  if (lastLecture.isAsked) return 'Escape again ends the lecture';
   const next = onward();
   return next ? `PageDown: ${next[0]}`.replace(': shows', ' shows') : 'The end: PageUp goes back';
 }
@@ -118,10 +218,10 @@ function footSaid() {
 const showFoot = () => isLecture() && playlist.where !== footSaid() && drawBar();
 
 /** While keys lead no pointer is seen, nor what it is at, until it moves. */
-const putLed = isLed => document.documentElement.classList.toggle('led', isLed);
+const putLed = isLed => putClass(ROOT, 'led', isLed);
 
 function click(isOn) {
-  if (document.activeElement.matches('.core-buttons button')) document.activeElement.blur(); // its ring is no part of the machine
+  if (focused().matches('.core-buttons button, #driving *, #way-back *')) focused().blur(); // no ring, and no buttons in sight
   if (isOn) onward()?.[1]();
   else backward();
   showFoot();
@@ -133,7 +233,7 @@ const visits = new Map();
 
 /** Notes the test that is shown, but none that is being written. */
 function noteVisit() {
-  if (drive.isOn && lesson.told === null && !isExercise() && document.activeElement !== byId('test')) visits.set(testName(), { address: currentAddress() });
+  if (drive.isOn && !isLesson() && !isExercise() && focused() !== byId('test')) visits.set(testName(), { address: currentAddress() });
 }
 
 function offered() {
@@ -148,22 +248,37 @@ const placeBefore = () => placeNow() - (taught.list.length === 0 || isOfEntry(fa
 function openOffered({ file, address }, isAtEnd) {
   if (file) takeFromLibrary(file);
   else openTest(address);
+  notePrepared();
   if (drive.isOn) goTo(isAtEnd ? drive.words.length : 0);
   scrollTo(0, 0);
 }
 
-document.addEventListener('keydown', event => {
+/** A clicker's keys darken the screen; then any key brings it back, and does nothing else. */
+on(document, 'keydown', event => {
+  const isAsked = isLecture() && /^[b.]$/i.test(event.key) && byId('letter-keys').checked && !event.target.matches('textarea, input');
+  if (!isAsked && !ROOT.classList.contains('dark-hall')) return;
+  ROOT.classList.toggle('dark-hall');
+  event.preventDefault();
+  event.stopImmediatePropagation();
+}, true);
+on(document, 'keydown', event => {
+  if (lastLecture.isJust && event.key === 'PageDown') {
+    event.preventDefault();
+    return toggleLecture();
+  }
+  if (event.key !== 'Escape') forgetJustEnded();
   if (!isLecture() || !['PageDown', 'PageUp'].includes(event.key) || event.target.matches('textarea')) return;
   event.preventDefault();
   byId('test-part').open = false; // what is edited is out of the hall's sight again
   click(event.key === 'PageDown');
 });
-for (const kind of ['scroll', 'click']) document.addEventListener(kind, showFoot, { passive: true });
-for (const kind of ['keydown', 'wheel', 'pointerdown', 'pointermove']) document.addEventListener(kind, () => putLed(kind === 'keydown' && isLecture()), { passive: true });
-document.addEventListener('fullscreenchange', () => {
-  if (!document.fullscreenElement && isLecture()) putLecture(false);
+for (const kind of ['wheel', 'pointerdown', 'click', 'input']) on(document, kind, forgetJustEnded, { passive: true });
+for (const kind of ['scroll', 'click']) on(document, kind, showFoot, { passive: true });
+for (const kind of ['keydown', 'wheel', 'pointerdown', 'pointermove']) on(document, kind, () => putLed(kind === 'keydown' && isLecture()), { passive: true });
+on(document, 'fullscreenchange', () => {
+  if (!document.fullscreenElement && isLecture()) askToEnd();
 });
-document.addEventListener('click', ({ target, detail }) => {
+on(document, 'click', ({ target, detail }) => {
   if (target.matches('[data-onward]')) click(true);
   if (!target.matches('[data-lecture]')) return;
   toggleLecture();

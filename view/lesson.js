@@ -4,9 +4,10 @@
 
 const IN_LESSON = Object.freeze({ told: null, at: 0, isDone: false, answer: null, before: '', refused: '', isStrayed: false, views: '' });
 
-/** The lesson that runs (`told`, or null), its step and how far that is, what came `before` where it went on by itself, whether the reader went another
- * way, and what `views` are in place of the machine. */
+/** The lesson that runs (`told`, or null), its step and how far that is, what came `before` it, whether the reader went another way, and the `views`
+ * in the machine's place. */
 let lesson = IN_LESSON;
+const isLesson = () => lesson.told !== null;
 
 const putLesson = changes => { lesson = Object.freeze({ ...lesson, ...changes }); };
 
@@ -49,7 +50,7 @@ function isSum() {
   const { told: { steps }, at, isDone } = lesson, next = steps[at + 1];
   return isDone && steps[at].say !== undefined && steps[at].then === undefined && (!next || next.test !== undefined);
 }
-const isAsked = () => lesson.told !== null && !lesson.isDone && stepNow().ask !== undefined;
+const isAsked = () => isLesson() && !lesson.isDone && stepNow().ask !== undefined;
 
 /** What its part showed since the last choice, which stands in place of the machine. */
 function viewsAt(steps, at, isDone) {
@@ -78,12 +79,12 @@ const LESSON_SHOWS = {
 function beginLesson(name, at = 0) {
   const told = lessonNamed(name);
   if (!told) return;
-  if (lesson.told === null && leftLesson?.test !== byId('test').value) ownBefore = isFirstTest() ? null : snapshotNow();
+  if (!isLesson() && leftLesson?.test !== testNow()) ownBefore = isFirstTest() ? null : snapshotNow();
   putLesson({ ...IN_LESSON, told, isStrayed: true });
   cachesView.wanted = told.caches ? true : null;
   byId('about').open = byId('test-part').open = false;
   enterStep(Math.min(Math.max(0, at), told.steps.length - 1));
-  byId('lesson').scrollIntoView({ block: 'nearest' });
+  bringNear(byId('lesson'));
   focusStep();
 }
 
@@ -127,7 +128,7 @@ function goBack() {
 
 /** Ends the lesson, if one runs: the machine is free, and its task stands there again. */
 function endLesson() {
-  if (lesson.told === null) return;
+  if (!isLesson()) return;
   putLesson(IN_LESSON);
   cachesView.wanted = null;
   drawLesson();
@@ -139,21 +140,21 @@ function endLesson() {
 /** The lesson that was left last, at which step, and its test; null before. And what stood there before a lesson, where it was a test of one's own. */
 let leftLesson = null, ownBefore = null;
 
-const isFirstTest = () => byId('test').value === partsOf(EXAMPLES[FIRST_TEXT]).test;
+const isFirstTest = () => testNow() === partsOf(EXAMPLES[FIRST_TEXT]).test;
 
 /** Leaves the lesson: its run stays. */
 function leaveLesson() {
   const { told: { name, steps }, at, isDone } = lesson, title = partTitled(), next = isDone && at === steps.length - 1 ? nextLesson() : undefined;
   endLesson();
-  leftLesson = { name: next?.name ?? name, title, at: next ? 0 : at, on: next?.title.split(':')[0], test: byId('test').value };
+  leftLesson = { name: next?.name ?? name, title, at: next ? 0 : at, on: next?.title.split(':')[0], test: testNow() };
   showLeft();
-  byId('left-lesson').scrollIntoView({ block: 'nearest' });
-  byId('lesson-again').focus({ preventScroll: true });
+  bringNear(byId('left-lesson'));
+  focusOn(byId('lesson-again'));
 }
 
 /** Shows one's own test again, from which a lesson led away; else the first test, as the page does when it opens. */
 function toFirstTest() {
-  const own = leftLesson?.test === byId('test').value ? ownBefore : null;
+  const own = leftLesson?.test === testNow() ? ownBefore : null;
   forgetOwnRun();
   if (own !== null) return restore(own);
   beginAddress();
@@ -162,13 +163,13 @@ function toFirstTest() {
   putSettings([]);
   putCommand('run');
   answerNow(true);
-  byId('run').scrollIntoView({ block: 'nearest' });
+  bringNear(byId('run'));
 }
 
 /** Says whose test this is after a lesson was left. Also leads back from one with an error. */
 function showLeft() {
-  const isLeft = leftLesson?.test === byId('test').value, isRefused = byId('test').matches('[aria-invalid=true]');
-  byId('left-lesson').hidden = lesson.told !== null || !(isLeft || isRefused);
+  const isLeft = leftLesson?.test === testNow(), isRefused = byId('test').matches('[aria-invalid=true]');
+  byId('left-lesson').hidden = isLesson() || !(isLeft || isRefused);
   byId('lesson-again').hidden = !isLeft;
   if (isLeft) putText(byId('lesson-again'), leftLesson.on ? `Next lesson: ${leftLesson.on}` : 'Go on with the lesson');
   const goesOn = drive.isOn && drive.count > 0 ? ', and your run goes on' : '';
@@ -178,10 +179,19 @@ function showLeft() {
   putText(byId('to-first-test'), isOwn ? 'Back to your own test' : 'Back to the first test');
 }
 
+/** The step to which a choice leads in the place of Next, where it is the lesson's own next one: its own step, or a question before it. Else -1. */
+function stepBy(word) {
+  const { told, at, isDone, isStrayed, views } = lesson, rest = isDone && !isStrayed && views === '' ? told.steps.slice(at + 1) : [];
+  const next = rest.findIndex(step => step.do ?? step.show ?? step.test), asked = rest.findIndex(step => step.ask);
+  if (rest[next]?.do !== word || rest[next].test) return -1;
+  return at + 1 + (asked < 0 ? next : Math.min(next, asked));
+}
+
 /** Whether a choice is made: not while a question waits, since it may tell the answer. */
 function lessonAllows(word) {
-  if (isAsked()) sayInLesson('First answer the question.');
-  else if (word === wantedNow() && lesson.isDone) enterStep(lesson.at + 1); // it is pressed in the place of Next
+  const at = stepBy(word);
+  if (at >= 0) enterStep(at);
+  if (isAsked()) sayInLesson(at < 0 ? 'First answer the question.' : '');
   return !isAsked();
 }
 
@@ -193,14 +203,14 @@ function sayInLesson(refused) {
 
 /** Goes on where the choice was the awaited one. Another is the reader's own way. */
 function lessonDid(word) {
-  if (lesson.told === null) return;
+  if (!isLesson()) return;
   const { told: { steps }, at, isDone, isStrayed } = lesson, { do: wanted, then, look } = steps[at], next = steps[at + 1];
-  const isOther = isStrayed || isDone || wanted !== word, wasNext = document.activeElement === byId('lesson-next');
+  const isOther = isStrayed || isDone || wanted !== word, wasNext = focused() === byId('lesson-next');
   if (!isOther && look === undefined && next?.ask !== undefined && next.test === undefined) enterStep(at + 1, { before: then });
   else putLesson(isOther ? { isStrayed: true, refused: '' } : { isDone: true, refused: '', before: '' });
   drawLesson();
   if (!isOther) focusStep();
-  else if (wasNext) byId('lesson-back').focus({ preventScroll: true });
+  else if (wasNext) focusOn(byId('lesson-back'));
   lookAtPicture();
 }
 
@@ -215,7 +225,7 @@ function showInLesson() {
   const { act } = LESSON_SHOWS[stepNow().show];
   putLesson({ isDone: true, refused: '', views: viewsAt(lesson.told.steps, lesson.at, true) });
   drawLesson();
-  byId('lesson-next').focus({ preventScroll: true });
+  focusOn(byId('lesson-next'));
   act();
 }
 
@@ -237,46 +247,27 @@ function showSentences() {
   const step = stepNow(), { isDone, answer, refused, isStrayed, before, told: { steps }, at } = lesson;
   putSaid('lesson-before', before);
   putSaid('lesson-said', step.ask ?? (step.do === undefined ? step.say : ''));
-  byId('lesson-said').classList.toggle('sum', isSum());
+  putClass(byId('lesson-said'), 'sum', isSum());
   putSaid('lesson-after', isStrayed ? `You may go your own way. ${drawn.panels[0]?.sentences.join(' ')}` : refused || (isDone && (step.ask === undefined ? step.then : judgedAnswer(step, answer))) || '');
-  byId('lesson-now').replaceChildren(...(isAsked() ? (refused === '' ? ['Answer first', html('span', { class: 'by-key' }, `: press ${step.answers.map((_, each) => keyOf(step.answers, each)).join(', ').replace(/, (?=\S$)/, ' or ')}`), '.'] : []) : wantedNow() === undefined ? [] : pressSaid(steps[at + isDone])));
-  byId('lesson-now').classList.toggle('short', byId('lesson-now').textContent.length <= SHORT_SAID);
+  fill(byId('lesson-now'), ...(isAsked() ? (refused === '' ? ['Answer first', html('span', 'by-key', `: press ${step.answers.map((_, each) => keyOf(step.answers, each)).join(', ').replace(/, (?=\S$)/, ' or ')}`), '.'] : []) : wantedNow() === undefined ? [] : pressSaid(steps[at + isDone])));
+  putClass(byId('lesson-now'), 'short', byId('lesson-now').textContent.length <= SHORT_SAID);
   const judged = isStrayed || answer === null || step.right === undefined ? '' : answer === step.right ? 'right' : 'wrong';
   byId('lesson-after').className = `after ${refused === '' ? judged : 'wrong'}`;
 }
 
-/** The key of an answer: the answer itself, where all are digits. */
-const keyOf = (answers, at) => (answers.every(answer => /^\d$/.test(answer)) ? answers[at] : String(at + 1));
-
 function lessonButtons() {
-  const { answers = [], right, show } = stepNow(), { answer: given, isDone } = lesson, button = (attributes, ...parts) => html('button', { type: 'button', ...attributes }, ...parts);
+  const { answers = [], right, show } = stepNow(), { answer: given, isDone } = lesson, button = (attributes, ...parts) => html('button', { ...attributes }, ...parts);
   const stateOf = answer => (given === null ? {} : { disabled: '', class: answer === right ? 'right' : '' });
   return [
-    ...answers.map((answer, at) => button({ 'data-answer': answer, 'aria-keyshortcuts': keyOf(answers, at), 'aria-pressed': answer === given, ...stateOf(answer) },
-      ...(keyOf(answers, at) === answer ? [html('kbd', { class: 'digit' }, answer)] : [html('kbd', { 'aria-hidden': 'true' }, at + 1), answer]))),
+    ...answers.map((answer, at) => button({ 'data-answer': answer, 'aria-keyshortcuts': keysOf(answers, at).join(' '), 'aria-pressed': answer === given, ...stateOf(answer) },
+      ...(keyOf(answers, at) === answer ? [html('kbd', 'digit', answer)] : [html('kbd', { 'aria-hidden': 'true' }, keyOf(answers, at)), answer]))),
     ...(show === undefined ? [] : [button({ 'data-show': show, class: isDone ? '' : 'main' }, LESSON_SHOWS[show].says)]),
   ];
 }
 
-const MOST_LETTERS = 16; // of an instruction with its C beside it
-
-/** Programs in C, with the `names` of each core's registers there (r0, r1 ..); null where an instruction has no such form. */
-function inC(programs) {
-  let count = 0;
-  const names = programs.map(() => ({}));
-  const lineOf = (text, core) => {
-    const word = part => (/^E/.test(part) ? names[core][part] ??= `r${count++}` : part.replace(/[[\]$]/g, ''));
-    const [, to, from] = /^MOV (\S+),(\S+)$/.exec(text) ?? [], [, place, register] = /^XCHG (\[\w+\]),(\w+)$/.exec(text) ?? [];
-    if (text.length > MOST_LETTERS || /\[r\d+\]/.test(text)) return null;
-    return to ? `${word(to)} = ${word(from)};` : place ? `swap(${word(place)}, ${word(register)});` : text === 'MFENCE' ? 'fence;' : null;
-  };
-  const lines = programs.map((program, core) => program.map(text => lineOf(text, core)));
-  return lines.flat().includes(null) ? null : { lines, names };
-}
-
 function markWanted() {
   const wanted = wantedNow();
-  for (const button of document.querySelectorAll('[data-choice]')) button.classList.toggle('wanted', button.dataset.choice === wanted);
+  for (const button of queryAll('[data-choice]')) putClass(button, 'wanted', button.dataset.choice === wanted);
 }
 
 function showNext() {
@@ -289,15 +280,16 @@ function showNext() {
 }
 
 function lookAtPicture() {
-  const isLooked = lesson.told !== null && lesson.isDone && stepNow().look === 'picture';
-  byId('frame').classList.toggle('looked', isLooked);
-  if (isLooked) byId('frame').scrollIntoView({ block: 'nearest' });
+  const isLooked = isLesson() && lesson.isDone && stepNow().look === 'picture';
+  putClass(byId('frame'), 'looked', isLooked);
+  if (isLooked) bringNear(byId('frame'));
 }
 
 function drawLesson() {
-  const isOn = lesson.told !== null, { classList } = document.documentElement;
+  const isOn = isLesson(), { classList } = ROOT;
   classList.toggle('learning', isOn);
   classList.toggle('questioned', isAsked());
+  classList.toggle('begun', isOn && lesson.at > beginOf(lesson.told.steps, lesson.at));
   classList.toggle('to-arrows', isOn && /Next arrow/.test(lesson.told.steps[lesson.at].say));
   const { at, isDone } = lesson, asked = isOn && lesson.told.steps.findIndex((step, each) => step.ask && each >= beginOf(lesson.told.steps, at));
   classList.toggle('unasked', isOn && at < asked + !isDone); // what waits may tell the answer
@@ -309,7 +301,7 @@ function drawLesson() {
   putText(byId('lesson-title'), partTitled());
   showPlace(lesson.told, at);
   showSentences();
-  byId('lesson-answers').replaceChildren(...lessonButtons());
+  fill(byId('lesson-answers'), ...lessonButtons());
   showNext();
 }
 
@@ -335,18 +327,18 @@ function goElsewhere() {
 }
 
 /** The button of the next arrow, where a step tells of it. */
-const nextArrow = () => /“Next arrow”/.test(stepNow().say) && document.querySelector('[data-edges=next][aria-disabled=false]');
+const nextArrow = () => /“Next arrow”/.test(stepNow().say) && query('[data-edges=next][aria-disabled=false]');
 
 /** Puts the focus on what a step waits for or asks, and else on Next. */
 function focusStep() {
-  const waited = isAsked() ? byId('lesson-said') : document.querySelector('[data-choice].wanted') ?? (nextArrow() || undefined);
-  (waited ?? (lesson.isDone ? null : document.querySelector('#lesson-answers [data-show]')) ?? byId('lesson-next')).focus({ preventScroll: true });
+  const waited = isAsked() ? byId('lesson-said') : query('[data-choice].wanted') ?? (nextArrow() || undefined);
+  focusOn(waited ?? (lesson.isDone ? null : query('#lesson-answers [data-show]')) ?? byId('lesson-next'));
 }
 
-/** What a key does at a question: digits answer, arrows lead to the answers. Whether it did anything. */
+/** What a key does at a question: a digit or a letter answers, arrows lead to the answers. Whether it did anything. */
 function answerByKey(key) {
-  const { answers } = stepNow(), answer = answers.find((_, at) => keyOf(answers, at) === key), way = { ArrowRight: 1, ArrowLeft: -1 }[key];
-  const buttons = [...byId('lesson-answers').children], at = buttons.indexOf(document.activeElement);
+  const { answers } = stepNow(), answer = answers.find((_, at) => keysOf(answers, at).includes(key)), way = { ArrowRight: 1, ArrowLeft: -1 }[key];
+  const buttons = [...byId('lesson-answers').children], at = buttons.indexOf(focused());
   if (answer !== undefined && /^[0-7]$/.test(key)) putDrive({ core: Number(key) }); // a choice may be typed as it is written
   if (answer !== undefined) answerLesson(answer);
   else if (way) buttons[Math.min(Math.max(0, at + way), buttons.length - 1)].focus();
@@ -355,8 +347,8 @@ function answerByKey(key) {
 
 function showLessons() {
   byId('lessons-part').open = true;
-  byId('lessons-part').scrollIntoView({ block: 'nearest' });
-  (byId('lessons').children[1] ?? byId('lessons')).querySelector('button').focus({ preventScroll: true });
+  bringNear(byId('lessons-part'));
+  focusOn((byId('lessons').children[1] ?? byId('lessons')).querySelector('button'));
 }
 
 const doneParts = new Set(); // each by its lesson and first step; a reload keeps them
@@ -366,7 +358,7 @@ function markLessons() {
   const { told, at } = lesson, now = told && `${told.name} ${beginOf(told.steps, at)}`;
   if (told && isSum()) doneParts.add(now);
   byId('marks-last').hidden = doneParts.size === 0;
-  for (const { dataset: { lesson: of, step }, nextSibling } of byId('lessons').querySelectorAll('button')) {
+  for (const { dataset: { lesson: of, step }, nextSibling } of queryAll('#lessons button')) {
     const part = `${of} ${step}`;
     putText(nextSibling, (doneParts.has(part) ? ' ✓ done' : '') + (part === now ? ' ● here' : ''));
   }
@@ -379,16 +371,16 @@ function drawLessons() {
   byId('first-lesson').textContent = title;
   byId('more-lessons').hidden = !second;
   putText(byId('more-lessons'), `Then: ${second?.title.split(':')[0]}, and more`);
-  const link = (of, at, text, ...parts) => html('li', {}, html('button', { type: 'button', 'data-lesson': of, 'data-step': at, class: 'quiet' }, text), html('span', {}), ...parts);
-  byId('lessons').replaceChildren(...lessons.map(each => {
+  const link = (of, at, text, ...parts) => html('li', {}, html('button', { 'data-lesson': of, 'data-step': at, class: 'quiet' }, text), html('span', {}), ...parts);
+  fill(byId('lessons'), ...lessons.map(each => {
     const parts = each.steps.flatMap(({ title: part }, at) => (part === undefined ? [] : [link(each.name, at, part)]));
     return link(each.name, 0, each.title, ...(parts.length > 0 ? [html('ul', {}, ...parts)] : []));
   }));
 }
 
-document.addEventListener('click', ({ target }) => {
+on(document, 'click', ({ target }) => {
   const { lesson: name, step = 0, answer, show: shows, edges } = (target.closest('[data-answer]') ?? target).dataset ?? {};
-  if (edges === 'next' && lesson.told !== null && nextArrow()) setTimeout(focusStep); // then Next
+  if (edges === 'next' && isLesson() && nextArrow()) setTimeout(focusStep); // then Next
   if (name !== undefined) beginLesson(name, Number(step));
   else if (answer !== undefined) answerLesson(answer);
   else if (shows !== undefined) showInLesson();

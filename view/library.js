@@ -48,13 +48,13 @@ const isOrderText = ({ file }) => file.endsWith('.order');
 
 /** What stands on top of the list at first: the texts to begin with. */
 const START_HERE = 'Start here';
-const STARTS = ['store-buffering.litmus', 'store-buffering-fenced.litmus', 'MP.litmus', 'false-sharing.litmus', 'CASLOCK.litmus'];
+const STARTS = ['store-buffering.litmus', 'store-buffering-fenced.litmus', 'SB+mfence+po.litmus', 'MP.litmus', 'false-sharing.litmus', 'CASLOCK.litmus'];
 
 /** The texts that this machine reads. */
 const textsHere = () => LIBRARY.filter(({ isLarger }) => bench.hasLargerSet || !isLarger);
 
 function libraryItem(entry) {
-  const button = html('button', { type: 'button', 'data-file': entry.file }, entry.file);
+  const button = html('button', { 'data-file': entry.file }, entry.file);
   return html('li', {}, button, entry.said === '' ? '' : ` ${entry.said}`);
 }
 
@@ -68,7 +68,7 @@ function showLibrary() {
   for (const entry of rest) if (!isOrderText(entry)) groups.set(entry.group, [...(groups.get(entry.group) ?? []), entry]);
   if (orders.length > 0) groups.set(ORDERS, orders);
   byId('found').textContent = `${found.length} of ${texts.length}`;
-  byId('texts').replaceChildren(...[...groups].flatMap(([group, entries]) => {
+  fill(byId('texts'), ...[...groups].flatMap(([group, entries]) => {
     const list = html('ul', {}, ...entries.map(libraryItem));
     return group === ORDERS ? [html('details', words.length > 0 ? { open: '' } : {}, html('summary', {}, group), list)] : [html('h4', {}, group), list];
   }));

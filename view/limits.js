@@ -30,8 +30,8 @@ function refuseTooLong(event) {
 
 /** Says a sentence where it is in sight, whatever is folded. */
 function sayInSight(sentence) {
-  byId('message').textContent = sentence;
-  byId('message').scrollIntoView({ block: 'nearest' });
+  putMessage(sentence);
+  bringNear(byId('message'));
 }
 
 /** Says a sentence of a field: beside the test, or where lines of runs are told of. */

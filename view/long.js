@@ -11,14 +11,14 @@ const NOTHING = { status: 0, text: '', hint: '' };
 /** Says what begins a command, in the place of its answer and beside the button. */
 function sayToBegin(command, why = '') {
   showAnswer(NOTHING);
-  byId('states').replaceChildren(html('p', { class: 'faint to-begin' }, `Press “${BEGINS[command]}”.`));
+  fill(byId('states'), html('p', 'faint to-begin', `Press “${BEGINS[command]}”.`));
   putText(byId('begin-said'), why);
 }
 
-/** Of a long command that isn't begun: what is wrong with its test, or nothing. Outcomes of few states come by themselves, and `why` where
- * its last answer was quick; until then the last answer stays. */
+/** Says what is wrong with the test of a long command, or nothing. Outcomes of few states come by themselves, and a `why` that was quick; until then
+ * the last answer stays. */
 function showRefusalAlone(command) {
-  const answer = asked({ command: 'run' }, inputOf(command)), isRefused = answer.status === Tso.STATUS.refused;
+  const answer = asked({ command: 'run' }, inputOf(command)), isRefused = answer.status === REFUSED;
   const isLive = !isRefused && (command === 'why' ? bench.took < QUICK : command === 'outcomes' && canAsk());
   const isAnswered = byId('states').childElementCount > 0 && bench.answer?.text.startsWith('{');
   clearTimeout(bench.again);
@@ -37,8 +37,8 @@ function stopTask() {
   endWorking();
 }
 
-/** Begins a long command in a worker. One that comes by itself (`isAgain`) is told beside the test, and a search of more than `most`
- * states then waits until it is asked for. An answer that is there is gone to, and any where `goesThere`. */
+/** Begins a long command in a worker. One that comes by itself (`isAgain`) is told beside the test, and over `most` states wait until asked for. An
+ * answer that is there is gone to, and any where `goesThere`. */
 async function begin({ isAgain, goesThere, most = Infinity } = {}) {
   const command = currentCommand(), { options } = showAsked(command), asks = JSON.stringify([options, inputOf(command)]);
   if (isAgain !== true && bench.told === asks) return focusAnswer();
@@ -47,7 +47,7 @@ async function begin({ isAgain, goesThere, most = Infinity } = {}) {
   clearTimeout(bench.again);
   const bare = refusalOfBare(inputOf('sweep'));
   if (bare) return showAnswer(bare);
-  byId('about').open = false;
+  byId('about').open = byId('keys').open = false;
   const isCut = most < options.states, began = Date.now(), input = inputOf(command), task = bench.task = beginTask(bench.bytes, questionsOf(command, isCut ? { ...options, states: most } : options), searchedInput(command), tellProgress);
   if (command === 'run') showAnswer(NOTHING);
   beginWorking();
@@ -57,10 +57,10 @@ async function begin({ isAgain, goesThere, most = Infinity } = {}) {
     if (bench.task !== task) return;
     stopTask();
     if (command === 'why') bench.took = Date.now() - began;
-    if (isCut && answers[0].status === Tso.STATUS.unended) return sayToBegin(command, 'Many states: press it to search.');
+    if (isCut && answers[0].status === UNENDED) return sayToBegin(command, 'Many states: press it to search.');
     drawLong(command, answers, options, input);
     bench.told = command === 'run' ? null : asks;
-    if (bench.answer.status === Tso.STATUS.refused) focusRefusal();
+    if (bench.answer.status === REFUSED) focusRefusal();
     else if (command !== 'run' && (goesThere || !saidInBrief())) focusAnswer();
   } catch (fault) {
     if (bench.task !== task) return;
@@ -75,15 +75,15 @@ function drawLong(command, answers, options, input) {
     showLong(command, answers, options, input);
   } catch (fault) {
     showAnswer(answers[0]);
-    byId('states').replaceChildren(answerTitle('The answer as text'), html('p', { role: 'status' }, `This part couldn't be drawn (${fault.message}). The answer as text is below.`));
+    fill(byId('states'), answerTitle('The answer as text'), html('p', { role: 'status' }, `This part couldn't be drawn (${fault.message}). The answer as text is below.`));
     byId('report-part').open = true;
   }
 }
 
 /** Shows the answer to a long command. */
 function showLong(command, answers, options, input) {
-  const [answer, beside] = answers, isGood = answer.status === Tso.STATUS.good, isUnended = answer.status === Tso.STATUS.unended;
-  if (command === 'outcomes' && isUnended && answers.at(-1)?.status === Tso.STATUS.good) Object.assign(possible, { test: input, can: JSON.parse(answers.at(-1).text).answer !== 'never' });
+  const [answer, beside] = answers, isGood = answer.status === GOOD, isUnended = answer.status === UNENDED;
+  if (command === 'outcomes' && isUnended && answers.at(-1)?.status === GOOD) noteAnswer(input, JSON.parse(answers.at(-1).text));
   if (command === 'run') showLongRun(answer, beside, options, input);
   else if (command === 'outcomes' && isGood) showOutcomes(answer, beside, input);
   else if (command === 'outcomes' && isUnended) showMet(answer, options.depth);
@@ -97,42 +97,45 @@ function showLong(command, answers, options, input) {
 function showUnfinished(command, answer) {
   showAnswer(answer);
   foldReport(answer);
-  byId('states').replaceChildren(...unfinishedParts(command));
+  fill(byId('states'), ...unfinishedParts(command));
 }
 
 /** What a task is asked: of outcomes and why the answer of sequential consistency too. */
 function questionsOf(command, options) {
   if (command === 'run') return [options, { ...options, json: true }];
-  if (command === 'outcomes') return [{ ...options, json: true }, ...(options.depth > 0 ? [{ ...options, depth: 0, json: true, after: Tso.STATUS.good }] : []),
-    ...(whyCan(inputOf('why')) === null && options.states !== QUICK_STATES ? [{ command: 'why', json: true, after: Tso.STATUS.unended }] : [])];
+  if (command === 'outcomes') return [{ ...options, json: true }, ...(options.depth > 0 ? [{ ...options, depth: 0, json: true, after: GOOD }] : []),
+    ...(whyCan(inputOf('why')) === null && options.states !== QUICK_STATES ? [{ command: 'why', json: true, after: UNENDED }] : [])];
   if (command === 'counts') return countedProtocols().map(protocol => ({ ...options, protocol, json: true }));
   if (command === 'why') return [{ ...options, json: true }, ...(options.model === 'tso' ? [{ command, json: true, model: 'sc', cases: POSSIBLE_CASES }] : [])];
   return [options];
 }
 
 function showLongRun(answer, line, options, input) {
-  if (answer.status === Tso.STATUS.good && line !== undefined) {
+  if (answer.status === GOOD && line !== undefined) {
     showAnswer(answer);
     if (showDriven(options, input, false)) return;
   }
-  const isDrawn = answer.status === Tso.STATUS.good;
+  const isDrawn = answer.status === GOOD;
   showAnswer(answer);
   byId('report-part').open = !isDrawn;
-  byId('no-steps').hidden = !(bench.tracing && (isDrawn || answer.status === Tso.STATUS.unended));
+  byId('no-steps').hidden = !(bench.tracing && (isDrawn || answer.status === UNENDED));
   if (isDrawn) showRun(readLine(line.text.trim()), line.text.trim());
 }
 
+const TOO_MANY = 'Without store buffers (SC) the search met its limit: “Why …?” compares them.';
+
 function showOutcomes(answer, beside, test) {
-  const outcomes = readOutcomes(answer.text), sequential = beside?.status === Tso.STATUS.good ? readOutcomes(beside.text) : null;
+  const outcomes = readOutcomes(answer.text), sequential = beside?.status === GOOD ? readOutcomes(beside.text) : null;
   showAnswer(answer);
   foldReport(answer);
-  const fine = sequential ? [html('span', { class: 'fine' }, ` ${besideSentence(outcomes, sequential)}`)] : [];
-  const said = html('p', { role: 'status' }, ...judgedOutcomes(outcomes, test), verdictOf(observationSentence(outcomes, test)), ...fine);
+  const more = sequential ? besideSentence(outcomes, sequential) : beside?.status === UNENDED ? TOO_MANY : null;
+  const fine = more === null ? [] : [html('span', 'fine', ` ${more}`)];
+  const said = html('p', { role: 'status', class: 'slide-said' }, html('span', 'asked'), ...judgedOutcomes(outcomes, test), verdictOf(observationSentence(outcomes, test)), ...fine);
   const sheetOfAll = statesSheet(outcomes, sequential, truthsOf(outcomes));
   const { proposition } = readTest(test);
-  byId('states').replaceChildren(answerTitle('All outcomes'), ...strayPart(test), said, ...termsPart(proposition && wantedWords(proposition)), ...sheetOfAll, ...outcomesInTerms(outcomes, sequential));
+  fill(byId('states'), answerTitle('All outcomes'), ...strayPart(test), said, ...termsPart(proposition && wantedWords(proposition)), ...sheetOfAll, ...outcomesInTerms(outcomes, sequential));
   showQuestion(test);
-  showFoot();
+  showFromBehind();
 }
 
 /** Notes that a task can't be done, and judges what the reader of an exercise had said. */
@@ -147,7 +150,8 @@ function judgedOutcomes({ observation, depth }, test) {
 function showMet(answer, depth, isStopped = false) {
   const met = readMet(answer.text);
   if (met.states.length === 0) return showUnfinished('outcomes', answer);
-  showAnswer(isStopped ? { ...answer, hint: '' } : answer); // no limit was met
+  showAnswer({ ...answer, hint: isStopped || knownByWhy() !== null ? '' : answer.hint }); // no limit was met, or why has told
   foldReport(answer);
-  byId('states').replaceChildren(answerTitle('Some outcomes'), ...openVerdict(met.states, metSentence(met, isStopped)), waysOn('outcomes', { isStopped }), ...statesSheet({ ...met, depth }, null, truthsOf(met)));
+  const known = allMet(met.states, depth), all = { ...met, states: [...wayOfWhy(known), ...known], depth };
+  fill(byId('states'), answerTitle('Some outcomes'), ...openVerdict(known, metSentence(met, isStopped, known)), waysOn('outcomes', { isStopped }), ...statesSheet(all, null, truthsOf(all)));
 }

@@ -10,7 +10,7 @@ const marked = (name, isChanged) => (isChanged ? { class: `${name} changed` } : 
 /** Marks, where a word was read that stands there, who read it. */
 const sourced = (attributes, supply) => (supply ? { ...attributes, class: `${attributes.class} source`, 'data-reader': `→P${supply.reader}`, title: `P${supply.reader} ${supply.isTaken ? 'took the line' : 'reads'} from here.` } : attributes);
 const suppliesLine = (supply, line) => supply && line.split('+').some(location => supply.locations.includes(location)) && supply;
-const hidden = text => html('span', { class: 'unshown' }, text);
+const hidden = text => html('span', 'unshown', text);
 
 // Parts of a core.
 
@@ -22,7 +22,7 @@ const isComparing = instruction => /^LOCK\s+CMPXCHG\b/i.test(instruction);
 
 /** The programs with NOPs, INC, DEC and exchanges as the test has them, where its rows are plain. */
 function asWritten(test, programs) {
-  const lines = test.split('\n'), rows = lines.slice(lines.findIndex(line => /^\s*P0\s*[|;]/.test(line)) + 1).filter(line => /;\s*$/.test(line)).map(cellsOf);
+  const plain = test.replace(/\(\*[^]*?\*\)/g, ''), lines = plain.split('\n'), rows = lines.slice(lines.findIndex(line => /^\s*P0\s*[|;]/.test(line)) + 1).filter(line => /;\s*$/.test(line)).map(cellsOf);
   const asIn = (text, read) => {
     const [counts] = /\b(INC|DEC)(?= )/i.exec(text) ?? [];
     if (counts) return read.replace(/(?:ADD|SUB) (.*),\$1$/, `${counts.toUpperCase()} $1`);
@@ -30,7 +30,7 @@ function asWritten(test, programs) {
   };
   return programs.map((program, core) => {
     const own = rows.flatMap(cells => cells[core]?.text || []);
-    return own.length === program.length && !test.includes('(*') ? own.map((text, at) => asIn(text, program[at])) : program;
+    return own.length === program.length && !plain.includes('*)') ? own.map((text, at) => asIn(text, program[at])) : program;
   });
 }
 
@@ -51,11 +51,11 @@ function usedRegisters({ programs, proposition, start }, core) {
 
 /** The registers of these names: those that the step wrote (`just`) stand out, and those that none has written look faint. */
 function registerItems(now, before, written, used, just, named) {
-  if (used.length === 0) return [html('li', { class: 'faint' }, 'no registers')];
+  if (used.length === 0) return [html('li', 'faint', 'no registers')];
   return used.map(name => html('li', {
     ...marked(written.includes(name) ? 'word written' : 'word plain', just.includes(name)),
     title: written.includes(name) ? `An instruction wrote ${name}.` : `No instruction has written ${name} yet.`,
-  }, name, ...(named?.[name] ? [html('span', { class: 'in-c' }, ` (${named[name]})`)] : []), `=${now[name]}`));
+  }, name, ...(named?.[name] ? [html('span', 'in-c', ` (${named[name]})`)] : []), `=${now[name]}`));
 }
 
 /** The stores that wait, the oldest first, after one that left. */
@@ -63,13 +63,13 @@ function bufferItems(now, before, supply) {
   const isNew = at => now.length > before.length && at === now.length - 1;
   const newest = supply ? now.findLastIndex(store => supply.locations.includes(store.split('=')[0])) : -1;
   const stores = now.map((store, at) => html('li', sourced(marked('slot', isNew(at)), at === newest && supply), store));
-  const left = before.length > now.length ? [html('li', { class: 'slot left' }, hidden('left: '), before[0])] : [];
-  return left.length + stores.length > 0 ? [...left, ...stores] : [html('li', { class: 'faint' }, 'empty')];
+  const left = before.length > now.length ? [html('li', 'slot left', hidden('gone: '), before[0])] : [];
+  return left.length + stores.length > 0 ? [...left, ...stores] : [html('li', 'faint', 'empty')];
 }
 
 function stateCell(state, change) {
   const badge = withMeaning({ tabindex: -1, class: `state state-${state[0]}${state.length > 1 ? ' transient' : ''}` }, state, state);
-  return change ? html('td', { class: 'changed' }, `${change.before}→`, badge) : html('td', {}, badge);
+  return change ? html('td', 'changed', `${change.before}→`, badge) : html('td', {}, badge);
 }
 
 const lineWords = (line, words) => (words.length > 1 ? line.split('+').map((name, at) => `${name}=${words[at]}`) : words).join(' ');
@@ -78,7 +78,7 @@ const lineWords = (line, words) => (words.length > 1 ? line.split('+').map((name
 function cacheRows(sets, changes, awaited, supply, had) {
   const changeOf = line => changes.find(change => change.line === line);
   const rowOf = (set, line, state, words, kind = '') => html('tr', { class: kind },
-    ...(sets.length > 1 ? [html('td', { class: 'faint' }, set === '' ? '' : `set ${set}`)] : []),
+    ...(sets.length > 1 ? [html('td', 'faint', set === '' ? '' : `set ${set}`)] : []),
     html('th', { scope: 'row' }, lineSaid(line)), stateCell(state, changeOf(line)), html('td', sourced({ class: 'words' }, suppliesLine(supply, line)), lineWords(line, words)));
   const there = sets.flatMap((lines, set) => lines.map(({ line, state, words }) => rowOf(set, line, awaited?.line === line ? awaited.state : state, words)));
   const has = name => sets.some(lines => lines.some(({ line }) => line === name));
@@ -109,8 +109,24 @@ function buttonTexts(program, { place, buffer }, bus, core) {
   };
 }
 
-/** A part's heading, which says what the part is. Where it `isStop` a Tab leads to it, and arrows from it to the words there. */
-const partTitle = (text, isStop) => html('h5', { 'data-means': text, tabindex: isStop ? 0 : -1, 'aria-label': text, 'aria-description': MEANINGS[text] }, text);
+/** A part's heading, which says what the part is. Arrows lead to it. */
+const partTitle = text => html('h5', { 'data-means': text, tabindex: -1, 'aria-label': text, 'aria-description': MEANINGS[text] }, text);
+
+const MOST_LETTERS = 16; // of an instruction with its C beside it
+
+/** Programs in C, with the `names` of each core's registers there (r0, r1 ..); null where an instruction has no such form. */
+function inC(programs) {
+  let count = 0;
+  const names = programs.map(() => ({}));
+  const lineOf = (text, core) => {
+    const word = part => (/^E/.test(part) ? names[core][part] ??= `r${count++}` : part.replace(/[[\]$]/g, ''));
+    const [, to, from] = /^MOV (\S+),(\S+)$/.exec(text) ?? [], [, place, register] = /^XCHG (\[\w+\]),(\w+)$/.exec(text) ?? [];
+    if (text.length > MOST_LETTERS || /\[r\d+\]/.test(text)) return null;
+    return to ? `${word(to)} = ${word(from)};` : place ? `swap(${word(place)}, ${word(register)});` : text === 'MFENCE' ? 'fence;' : null;
+  };
+  const lines = programs.map((program, core) => program.map(text => lineOf(text, core)));
+  return lines.flat().includes(null) ? null : { lines, names };
+}
 
 /** A core's instructions as `written`, each with what it does at the pointer; the first of its kind in the test at the focus too. */
 function instructionItems(programs, written, core) {
@@ -134,20 +150,20 @@ class CorePanel {
     this.depth = options.depth;
     this.makeParts(instructionItems(programs, written, core));
     this.element = html('section', { class: 'core', 'data-core': core, 'aria-label': `Core P${core}` },
-      html('h4', {}, `P${core}`), html('div', { class: 'core-buttons' }, ...['step', 'drain'].map(way => html('div', { class: 'choice' }, this[way], this.stalls[way]))),
-      html('div', { class: 'of-core' }, partTitle('Program', true), this.list, partTitle('Registers'), this.registers.element,
-        partTitle('Store buffer'), this.depth === 0 ? html('p', { class: 'faint' }, 'none') : this.buffer.element),
-      html('div', { class: 'of-caches' }, partTitle('Cache'), this.cache));
+      html('h4', {}, `P${core}`), html('div', 'core-buttons', ...['step', 'drain'].map(way => html('div', 'choice', this[way], this.stalls[way]))),
+      html('div', 'of-core', partTitle('Program'), this.list, partTitle('Registers'), this.registers.element,
+        partTitle('Store buffer'), this.depth === 0 ? html('p', 'faint', 'none') : this.buffer.element),
+      html('div', 'of-caches', partTitle('Cache'), this.cache));
   }
 
   makeParts(items) {
-    const button = (way, name) => html('button', { type: 'button', 'data-choice': `${this.core}${name}` },
+    const button = (way, name) => html('button', { 'data-choice': `${this.core}${name}` },
       html('kbd', { 'aria-hidden': 'true' }, `${this.core}${name}`), ` ${way} `, html('code', {}));
     const list = (name, label, draw) => new Part(html('ul', { class: name, 'aria-label': label }), draw);
     this.step = button('step', 's');
     this.drain = button('drain', 'd');
-    const stall = (way, name) => html('button', { type: 'button', class: 'stall', 'data-stall': `${this.core}${name}`, hidden: '',
-      'aria-label': `P${this.core}: ${way} anyway, which stalls`, title: 'Make this choice anyway: it stalls, and changes nothing.' }, 'stall');
+    const stall = (way, name) => html('button', { class: 'stall', 'data-stall': `${this.core}${name}`, hidden: '',
+      'aria-label': `P${this.core}: record a ${way} that does nothing`, title: 'Records this choice in the run: nothing changes.' }, 'stall');
     this.stalls = { step: stall('step', 's'), drain: stall('drain', 'd') };
     const isLong = this.program.length > MOST_LINES;
     const named = { 'aria-label': `Program of P${this.core}`, ...(isLong ? { tabindex: 0 } : {}) };
@@ -156,7 +172,7 @@ class CorePanel {
     this.registers = list('registers', 'Registers', registerItems);
     this.buffer = list('buffer', 'Store buffer, the oldest store first', bufferItems);
     this.lines = new Part(html('tbody', {}), cacheRows);
-    this.cache = html('div', { class: 'cache-room' }, html('table', { class: 'cache', 'aria-label': 'Cache' }, this.lines.element));
+    this.cache = html('div', 'cache-room', html('table', { class: 'cache', 'aria-label': 'Cache' }, this.lines.element));
   }
 
   /** Shows the core as it is after a step and what that step changed. `bus` is the bus where this core holds it, and else null. */
@@ -169,7 +185,7 @@ class CorePanel {
     this.lines.show(core.lines, changes, bus?.state?.length > 1 ? { line: bus.line, state: bus.state } : null, isBuffer ? null : supply, had);
     this.showButtons(core, bus, hasEnded);
     this.showPlace(core.place, core.place !== old.place);
-    this.element.classList.toggle('acted', isLast);
+    putClass(this.element, 'acted', isLast);
   }
 
   showButtons(core, bus, hasEnded) {
@@ -182,7 +198,7 @@ class CorePanel {
       putText(code, texts[way]);
       setAll(this[way], { 'aria-label': `P${this.core}: ${ended || `${way} ${texts[way]}`}` });
       this[way].disabled = hasEnded;
-      this[way].classList.toggle('idle', stalls[way]);
+      putClass(this[way], 'idle', stalls[way]);
       this.stalls[way].hidden = hasEnded || !stalls[way] || (way === 'step' && isFinished);
       this.stalls[way].classList.remove('offered');
     }
@@ -242,14 +258,14 @@ class MachinePanel {
     this.history = history;
     this.written = asWritten(drive.test, history.programs);
     this.panels = history.programs.map((_, core) => new CorePanel(core, history, this.written));
-    this.said = html('p', { class: 'said' });
-    this.bus = new Part(html('p', { class: 'bus' }), busItems);
-    this.tally = html('p', { class: 'tally' });
+    this.said = html('p', 'said');
+    this.bus = new Part(html('p', 'bus'), busItems);
+    this.tally = html('p', 'tally');
     this.memory = new Part(html('ul', { class: 'memory', 'aria-label': 'Memory' }), memoryItems);
     this.name = html('h3', { tabindex: -1 });
     this.element = html('section', { class: 'machine', 'aria-label': `The machine: ${machineName(history.options)}` },
-      this.name, this.said, html('div', { class: 'cores' }, ...this.panels.map(panel => panel.element)),
-      html('div', { class: 'below' }, html('div', { class: 'of-caches' }, partTitle('Bus'), this.bus.element, this.tally), html('div', {}, partTitle('Memory', true), this.memory.element)));
+      this.name, this.said, html('div', 'cores', ...this.panels.map(panel => panel.element)),
+      html('div', 'below', html('div', 'of-caches', partTitle('Bus'), this.bus.element, this.tally), html('div', {}, partTitle('Memory'), this.memory.element)));
     this.element.style.setProperty('--rows', Math.min(MOST_ROWS, Math.ceil(Object.keys(history.start.memory).length / history.options.words)));
     this.memory.element.style.setProperty('--pairs', Math.ceil(Object.keys(history.start.memory).length / 2));
     this.element.style.setProperty('--lines', Math.min(MOST_LINES, Math.max(...history.programs.map(program => program.length)))); // so that parts stand at one height

@@ -4,16 +4,17 @@
 
 const MEANINGS = {
   Program: 'The instructions of this core, from top to bottom. The marked one is next: step does it.',
-  Registers: 'Words that belong to this core alone: a load puts what it reads there.',
+  Registers: 'Values that belong to this core alone: a load puts what it reads there.',
   'Store buffer': 'A queue of this core\'s stores that memory has not seen. Only this core sees them. The oldest, at the right, drains first.',
   Cache: 'Copies of lines of memory, each in a state. A store can be written only while this core has the only copy.',
   Bus: 'All caches are on one bus: by it they ask for lines, and see what others ask for.',
-  Memory: 'Each location\'s word, shared by all cores.',
-  newest: 'A word that a cache has, and memory itself has not yet.',
+  Memory: 'Each location\'s value, shared by all cores.',
+  newest: 'A value that a cache has, and memory itself has not yet.',
   passed: 'A load passes a store that is earlier in its own program, if memory sees the load first. TSO allows it; sequential consistency doesn\'t.',
+  'locked instruction': 'One that reads and writes a location in one step: XCHG, or one with LOCK. As a fence, it waits until its core\'s store buffer is empty.',
   order: 'The order in which memory sees loads, stores and fences of all cores: from top to bottom.',
-  Under: 'TSO alone: such an end needs store buffers. Sequential consistency has none like it.',
-  Condition: 'Whether the proposition of the test\'s condition is true of this end.',
+  Under: 'TSO alone: this outcome needs store buffers. Sequential consistency has none like it.',
+  Condition: 'Whether what the test asks for is true of this outcome.',
   exists: 'Asks whether a run ends so.',
   '~exists': 'Claims that no run ends so.',
   forall: 'Claims that each run ends so.',
@@ -54,7 +55,7 @@ const INSTRUCTIONS = [
   ['an exchange', /^XCHG\b.*\[/i, 'In one step, as with LOCK: reads the location and writes the register to it. The register gets the word that was read.'],
   ['a locked operation', /^LOCK\b/i, 'In one step: reads the location, computes, and writes it. No other core comes between, and the store buffer has to be empty before.'],
   ['a store', /^MOV\s+\[/i, 'A store: the value goes into the store buffer of this core, and to memory later, when it drains.'],
-  ['a load', /^MOV\b.*\[/i, 'A load: the register gets the newest own store to the location that waits in the buffer, and else memory\'s word.'],
+  ['a load', /^MOV\b.*\[/i, 'A load: the register gets the newest store to the location in its own core\'s buffer, and else what memory has.'],
   ['a fence', /^MFENCE\b/i, 'A fence: it waits until the store buffer of its core is empty. In C it is atomic_thread_fence(\u200bmemory_order_seq_cst).'],
   ['an instruction that does nothing', /^(NOP|PAUSE|LFENCE|SFENCE)\b/i, 'It does nothing. Under TSO neither do PAUSE, LFENCE and SFENCE.'],
   ['register arithmetic', /^/, 'Changes registers of this core alone. Memory and other cores don\'t see it.'],
@@ -69,10 +70,14 @@ function withMeaning(attributes, name, shown, tag = 'span') {
   return html(tag, meaning === undefined ? attributes : { tabindex: 0, ...attributes, role: 'note', 'data-means': name, 'aria-label': `${shown}. ${meaning}` }, shown);
 }
 
-/** Puts a sentence into an element, where it isn't that already: a condition's signs have their meanings. */
-function putCondition(element, sentence) {
-  const parts = sentence.split(/(~?exists(?= \()|forall(?= \()|\/\\|\\\/)/);
-  if (element.textContent !== sentence) element.replaceChildren(...parts.map((part, at) => (at % 2 ? withMeaning({ tabindex: -1 }, part, part) : part)));
+/** A sentence in which a condition's signs, and locked instructions, have their meanings. */
+function explained(sentence, attributes = { tabindex: -1 }) {
+  return sentence.split(/(~?exists(?= \()|forall(?= \()|\/\\|\\\/|locked instruction)/).map((part, at) => (at % 2 ? withMeaning(attributes, part, part) : part));
+}
+
+/** Puts such a sentence into an element, where it isn't that already. */
+function putExplained(element, sentence) {
+  if (element.textContent !== sentence) fill(element, ...explained(sentence));
 }
 
 /** Where the pointer was last. A browser also tells that it came to something when the page changed below it. */
@@ -90,8 +95,8 @@ const HEAVY = 9; // so many words count as much as a button or a buffer
 
 /** How high an explanation covers least: over its word, below it, or below what it names. */
 function heightOfMeaning(word, { offsetWidth: width, offsetHeight: height }) {
-  const [{ left, top, bottom }, next] = [word, word.nextElementSibling ?? word].map(part => part.getBoundingClientRect());
-  const taken = [...document.querySelectorAll('button, .word, .buffer, .program code')].map(part => [part.getBoundingClientRect(), part.matches('button, .buffer') ? HEAVY : 1]);
+  const [{ left, top, bottom }, next] = [word, word.nextElementSibling ?? word].map(boxOf);
+  const taken = [...queryAll('button, .word, .buffer, .program code')].map(part => [boxOf(part), part.matches('button, .buffer') ? HEAVY : 1]);
   const covered = y => taken.reduce((sum, [part, weight]) => sum + (part.left < left + width && part.right > left && part.top < y + height && part.bottom > y) * weight, 0);
   return [top - height - 4, bottom + 4, next.bottom + 4].filter(y => y >= 0 && y + height <= innerHeight).sort((one, other) => covered(one) - covered(other))[0] ?? 0;
 }
@@ -105,19 +110,19 @@ function showMeaning(event) {
   if (!word) return;
   box.textContent = MEANINGS[word.dataset.means];
   box.style.left = 0; // where it has its whole width
-  box.style.left = `${Math.max(4, Math.min(word.getBoundingClientRect().left, document.documentElement.clientWidth - box.offsetWidth - 4))}px`;
+  box.style.left = `${Math.max(4, Math.min(boxOf(word).left, ROOT.clientWidth - box.offsetWidth - 4))}px`;
   box.style.top = `${heightOfMeaning(word, box)}px`;
 }
 
-for (const kind of ['pointerover', 'focusin']) document.addEventListener(kind, showMeaning);
-for (const kind of ['focusout', 'resize', 'keydown', 'click']) window.addEventListener(kind, () => { byId('meaning').hidden = true; }, true);
-document.addEventListener('pointermove', ({ screenX: x, screenY: y }) => Object.assign(pointerWas, { x, y }), { passive: true });
+for (const kind of ['pointerover', 'focusin']) on(document, kind, showMeaning);
+for (const kind of ['focusout', 'resize', 'keydown', 'click']) on(window, kind, () => { byId('meaning').hidden = true; }, true);
+on(document, 'pointermove', ({ screenX: x, screenY: y }) => Object.assign(pointerWas, { x, y }), { passive: true });
 
-/** Down and up lead to the other words of a core, of memory, or of the picture: one Tab stop has all of these. */
-document.addEventListener('keydown', event => {
-  const way = { ArrowDown: 1, ArrowUp: -1 }[event.key], group = way && event.target.matches('[data-means]') && event.target.closest('.core, .below, .beside');
+/** Down and up lead to the other words of the machine and the picture, all of which have one Tab stop; or of an answer. */
+on(document, 'keydown', event => {
+  const way = { ArrowDown: 1, ArrowUp: -1 }[event.key], group = way && event.target.matches('[data-means][tabindex]') && event.target.closest('main, #states');
   if (!group) return;
   const words = [...group.querySelectorAll('[data-means][tabindex]')].filter(word => word.checkVisibility());
-  words[words.indexOf(event.target) + way]?.focus();
+  words.at((words.indexOf(event.target) + way) % words.length).focus();
   event.preventDefault();
 });

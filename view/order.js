@@ -19,11 +19,8 @@ function passedBy(order, load) {
   return load.kind === 'R' ? order.slice(load.index + 1).filter(entry => entry.kind === 'W' && isBefore(entry, load)) : [];
 }
 
-/**
- * When a plain store came into its core's buffer; moment m is the one after m entries. All other entries are made at their own step, in program
- * order. So it came in between those before and after it, and once the store that is `depth` plain stores before it had left: at a moment from
- * `earliest` to `latest`, each of which is possible. From `latest` on it waited for certain. At depth 0 its entry is made at its step.
- */
+/** When a plain store came into its core's buffer (moment m is after m entries): from `earliest` to `latest`, each of which is possible. It came in
+ * between its core's entries before and after it, and once the store `depth` plain stores before it had left. At depth 0 it is at its step. */
 function waitOf(run, store) {
   const { depth } = run.machine;
   if (depth === 0) return { earliest: store.index, latest: store.index };
@@ -56,10 +53,8 @@ function layTracks(run) {
   return count;
 }
 
-/**
- * Puts beside each entry of a run what the order tells of it: of a read the write that it returned (`source`) and the stores
- * that it passed (`passed`), of a plain store its time in the buffer (`wait`) and the track of its bar.
- */
+/** Puts beside each entry what the order tells of it: of a read its write (`source`) and the stores it passed (`passed`), of a plain store its time in
+ * the buffer (`wait`) and its bar's track. */
 function tellEntries(run) {
   for (const entry of run.order) {
     entry.source = isRead(entry) ? sourceOf(run.order, entry) : undefined;

@@ -17,34 +17,46 @@ function outcomesInTerms({ observation, verdict, depth }, sequential) {
   if (observation === null) return [];
   const { word, true: yes, false: no } = observation;
   const other = sequential ? ` Under sequential consistency the observation is ${sequential.observation.word}.` : '';
-  return [inTerms(`Observation: ${word} (true in ${yes}, false in ${no}).${verdictWords(verdict)}${other}${depth === 32 ? ' A store buffer has room for 32 stores here, whatever yours has.' : ''}`)];
+  return [inTerms(`Observation: ${word} (true in ${yes}, false in ${no}).${verdictWords(verdict)}${other}${depth === 32 ? ' A store buffer has room for 32 stores here, whatever yours has: no core has more.' : ''}`)];
 }
 
 /** The verdict on the condition, and how many states are as it says. */
 function countSentence(all, yes, where, test) {
-  const { proposition } = readTest(test), wanted = proposition && wantedWords(proposition), said = wanted && !isLongEnd(wanted) ? wantedSentence(wanted) : 'what the condition says';
+  const { proposition, programs } = readTest(test), wanted = proposition && wantedWords(proposition), said = wanted && !isLongEnd(wanted) ? wantedSentence(wanted) : 'what the condition says';
   const quantifier = quantifierOf(test), isForall = quantifier === 'forall', few = isForall && yes === all && all > 1 ? `all ${all}` : `${isForall && 0 < yes && yes < all ? 'only ' : ''}${yes || 'none'} of ${all}`;
-  const count = `${few} ${all === 1 ? 'outcome' : 'outcomes'} ${where} ${yes > 1 ? 'have' : 'has'} ${said}.`;
+  const many = `${few} ${all === 1 ? 'outcome' : 'outcomes'} ${where}`, read = wanted && loadsSentence(wanted, programs), count = read ? `${read} in ${many}.` : `${many} ${yes > 1 ? 'have' : 'has'} ${said}.`;
   return `${quantifier === 'exists' ? (yes > 0 ? 'Yes' : 'No') : claimWords(yes === (isForall ? all : 0))}: ${count}`;
 }
 
-/** Of a search that met its limit what it had met. An older module tells nothing. */
+/** What a search had met that met its limit. */
 function readMet(text) {
   const { met = [], verdict = null, unfinished } = JSON.parse(text);
   return { states: met, verdict, unfinished };
 }
 
-function metSentence({ states, verdict, unfinished }, isStopped) {
-  const many = states.length === 1 ? 'One of the outcomes was' : `${states.length} of the outcomes were`;
-  const kept = `${unfinished.states.toLocaleString('en')} states`, limit = `The search kept ${kept}, its limit, and didn't end. ${many} met before that`;
-  const met = isStopped ? `The search was stopped. ${many} met among its first ${kept}, and later ones weren't told yet` : limit;
-  return `${met}; there may be others.${decidedWords(states)}${verdictWords(verdict)}`;
+/** What a search met that has no end; `known` is what earlier ones met too. */
+function metSentence({ states, verdict, unfinished }, isStopped, known = states) {
+  const many = `${grouped(states.length)} of the outcomes`, kept = `${grouped(unfinished.states)} states`, more = known.length - states.length;
+  const earlier = more > 0 ? `, and earlier searches met ${grouped(more)} more` : '';
+  const met = isStopped ? `The search was stopped. It met ${many} among its first ${kept}; later ones weren't told yet` : `The search kept ${kept}, its limit, and didn't end. It met ${many}`;
+  return `${met}${earlier}. How many there are isn't known${isStopped ? '' : ': another limit can meet others'}.${decidedWords(known)}${verdictWords(verdict)}`;
 }
 
-/** That what was met leaves the condition open, where it does. */
+/** That what was met leaves the condition open, where it does, and `why` told nothing. */
 function decidedWords(states) {
-  const quantifier = quantifierOf(byId('test').value), isForall = quantifier === 'forall';
-  return quantifier === null || states.some(({ holds }) => holds !== isForall) ? '' : ` ${isForall ? 'All of them meet' : 'None of them meets'} the condition, which alone decides nothing.`;
+  const isForall = quantifierOf(testNow()) === 'forall';
+  return isDecided(states) !== false || knownByWhy() !== null ? '' : ` ${isForall ? 'All of them meet' : 'None of them meets'} the condition, which alone decides nothing.`;
+}
+
+/** What searches of one test without an end have met, by the values. */
+const everMet = { asks: null, states: new Map() };
+
+/** What this search and earlier ones of the same test have met: a longer one doesn't meet all that a shorter one did. */
+function allMet(states, depth) {
+  const asks = JSON.stringify([searchedInput('outcomes'), depth]);
+  if (everMet.asks !== asks) Object.assign(everMet, { asks, states: new Map() });
+  for (const state of states) everMet.states.set(valuesText(state.values), state);
+  return [...everMet.states].sort().map(([, state]) => state);
 }
 
 const valuesText = values => Object.entries(values).map(([name, word]) => `${name}=${word}`).join(' ');
@@ -69,11 +81,12 @@ const MOST_RUN = 100; // states for which easy choices are sought
 const truthsOf = ({ observation, states }) => (observation !== null && states.every(({ holds }) => typeof holds === 'boolean') ? states.map(({ holds }) => holds) : null);
 
 const LONG_CHOICES = 80; // letters, from which on choices are folded
+const WIDE_CHOICES = 24; // the same in a wide table
 
 /** Choices, folded where they are many. */
-function foldedChoices(choices, before = '') {
-  if (choices.length < LONG_CHOICES) return [choices === '' ? '(none)' : choices];
-  return [html('details', { class: 'small' }, html('summary', {}, `${before}${countChoices(choices)} choices`), html('code', {}, choices))];
+function foldedChoices(choices, long = LONG_CHOICES, before = '') {
+  if (choices.length < long) return [choices === '' ? '(none)' : choices];
+  return [html('details', 'small', html('summary', {}, `${before}${countChoices(choices)} choices`), html('code', {}, choices))];
 }
 
 const lastWord = ({ registers, memory }, name) => memory.get(name) ?? registers[name[0]]?.get(name.slice(2)); // of a run
@@ -91,28 +104,27 @@ function waysTo({ states, depth }, sequential, sought) {
 /** The column of the condition: its head, and its words for a state that is sought (or breaks a claim) and for others. */
 const columnOf = quantifier => (quantifier === 'exists' ? ['Condition', '✓ true', 'false'] : ['Claim', '✗ breaks it', 'keeps it']);
 
-/** A row for each state; its button has the choices for `loadChoices`. */
+/** A row for each state: the verdict, the places, and a button that has the choices for `loadChoices`. */
 function outcomesTable(outcomes, sequential, truths) {
   const { states, depth } = outcomes, names = Object.keys(states[0].values), isNew = sequential && newStates(outcomes, sequential);
   const quantifier = quantifierOf(inputOf('outcomes')), [condition, yes, no] = columnOf(quantifier), sought = truths?.map(truth => truth === (quantifier !== 'forall'));
   const ways = waysTo(outcomes, sequential, sought);
-  const titles = [...names, ...(sequential ? ['Under'] : []), ...(truths ? [condition] : []), 'Choices that lead there', ''];
+  const verdicts = [...(sequential ? ['Under'] : []), ...(truths ? [condition] : [])], titles = [...verdicts, ...names, 'Choices that lead there', ''];
   const sheet = tableOf('Final states', titles, states.map(({ values }, at) => html('tr', sought?.[at] ? { class: 'met' } : {},
+    ...(sequential ? [html('td', 'unbroken', isNew[at] ? html('strong', {}, 'TSO alone') : 'TSO and SC')] : []),
+    ...(truths ? [html('td', sought[at] ? 'unbroken' : 'faint unbroken', sought[at] ? yes : no)] : []),
     ...names.map(name => html('td', { class: 'number', 'data-name': name }, String(values[name]))),
-    ...(sequential ? [html('td', { class: 'unbroken' }, isNew[at] ? html('strong', {}, 'TSO alone') : 'TSO and SC')] : []),
-    ...(truths ? [html('td', { class: sought[at] ? 'unbroken' : 'faint unbroken' }, sought[at] ? yes : no)] : []),
-    html('td', { class: 'wraps way' }, ...foldedChoices(ways[at])),
-    html('td', {}, html('button', { type: 'button', class: 'goes', 'data-choices': ways[at], 'data-depth': depth, 'aria-label': `Run to ${valuesText(values)}` }, 'Run them')))));
-  if (outcomes.unfinished === undefined) sheet.querySelector('table').append(...neverRow(names, titles.length, truths));
+    html('td', 'wraps way', ...foldedChoices(ways[at], names.length > FEW_COLUMNS ? WIDE_CHOICES : LONG_CHOICES)),
+    html('td', {}, html('button', { class: 'goes', 'data-choices': ways[at], 'data-depth': depth, 'aria-label': `Run to ${valuesText(values)}` }, 'Run them')))));
+  if (outcomes.unfinished === undefined) sheet.querySelector('table').append(...neverRow(names, verdicts.length, truths));
   return sheet;
 }
 
-/** The row of what the condition asks for, where no state is so: struck through, below. */
-function neverRow(names, columns, truths) {
+/** The row of what the condition asks for, where no state is so: struck through, below. The verdict has `before` cells. */
+function neverRow(names, before, truths) {
   const { proposition } = readTest(inputOf('outcomes')), wanted = truths?.every(truth => !truth) && proposition !== null ? wantedWords(proposition) : null;
   const words = new Map(wanted?.map(({ core, register, location, word }) => [location ?? `${core}:${register}`, word]));
   if (wanted === null || names.filter(name => words.has(name)).length !== words.size) return [];
   const cells = names.map(name => html('td', { class: 'number', 'data-name': name }, words.has(name) ? html('s', {}, String(words.get(name))) : 'any'));
-  const never = html('td', { colspan: columns - names.length, class: 'prose' }, html('strong', {}, 'never'), ', in no run');
-  return [html('tfoot', {}, html('tr', { class: 'never' }, ...cells, never))];
+  return [html('tfoot', {}, html('tr', 'never', html('td', { colspan: before, class: 'prose' }, html('strong', {}, 'never')), ...cells, html('td', { colspan: 2, class: 'prose' }, 'in no run')))];
 }

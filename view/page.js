@@ -48,29 +48,22 @@ function takeText(text) {
   const isOrder = putInput(text);
   putCommand(isOrder ? 'check' : 'run');
   answerNow();
-  byId('bench').scrollIntoView({ block: 'nearest' });
+  bringNear(byId('bench'));
 }
 
 /** The choices that came with the example that was taken last. */
 const fromExample = { words: null };
 
-/** Takes a text of the list of examples, and brings the machine with it into sight. Who asked for outcomes or for a reason is answered of it,
- * but of caches. */
+/** Takes a text of the list of examples, and brings the machine with it into sight: no answer comes before its question. */
 function takeFromLibrary(file) {
-  const command = isLecture() ? 'run' : currentCommand();
   putDrive({ beside: null }); // what stood beside another test
   loadText(file);
-  if (bench.answer?.status === Tso.STATUS.refused) return;
-  if (Object.hasOwn(LIMIT_OF, command) && currentCommand() === 'run' && valueOf('words') === 1) {
-    byId('test-part').open = byId('about').open = false;
-    ask(command, { isAgain: true });
-    return;
-  }
+  if (bench.answer?.status === REFUSED) return;
   if (/\bseed\b/.test(choicesText())) leaveOutStalls();
   fromExample.words = drive.words;
   if (drive.isOn) showDrive(); // whose the choices are
   byId('test-part').open = byId('about').open = false;
-  byId('bench').scrollIntoView({ block: 'nearest' });
+  bringNear(byId('bench'));
   focusMachine();
 }
 
@@ -89,7 +82,7 @@ function leaveOutStalls() {
 function driveTest() {
   byId('test-part').open = false;
   byId('run').scrollIntoView({ block: 'start' });
-  (document.querySelector('[data-choice]:enabled') ?? byId('frame')).focus({ preventScroll: true });
+  focusOn(query('[data-choice]:enabled') ?? byId('frame'));
 }
 
 async function takeFile(file) {
@@ -124,7 +117,7 @@ function toggleKeys() {
   title.click();
 }
 
-const canEdit = () => bench.tso !== null && lesson.told === null && !isLecture() && byId('letter-keys').checked;
+const canEdit = () => bench.tso !== null && !isLesson() && !isLecture() && byId('letter-keys').checked;
 
 /** Opens the test, to be written on. */
 function editTest(event) {
@@ -133,27 +126,33 @@ function editTest(event) {
   byId('test').focus();
 }
 
-const canAsk = () => bench.tso !== null && lesson.told === null && !isUnanswered() && byId('test').value.trim() !== '';
+const canAsk = () => bench.tso !== null && !isLesson() && !isUnanswered() && testNow().trim() !== '';
 
-document.addEventListener('keydown', event => {
+/** Notes that a key acted: the list of keys lies over what it did. */
+function doneByKey(event) {
+  event.preventDefault();
+  byId('keys').open = false;
+}
+
+on(document, 'keydown', event => {
   if (event.ctrlKey && event.key === 'Enter' && canAsk()) ask(askedNext());
   const isForOthers = event.target.matches('textarea, select, input:not([type=checkbox])') || event.ctrlKey || event.altKey || event.metaKey || (event.shiftKey && !'+?'.includes(event.key));
   if (!isForOthers && ASK_KEYS[event.key] && canAsk() && byId('letter-keys').checked) return ask(ASK_KEYS[event.key], { goesThere: true });
   if (!isForOthers && event.key === 'e' && canEdit()) return editTest(event);
   if (!isForOthers && event.key === '?' && !isLecture() && byId('letter-keys').checked) return toggleKeys();
-  if (!isForOthers && stepsArrows(event)) return event.preventDefault();
+  if (!isForOthers && stepsArrows(event)) return doneByKey(event);
   if (isForOthers || !(shown.run || drive.isOn)) return;
-  if (KEYS[event.key] && isAsked() && answerByKey(event.key)) return event.preventDefault();
+  if (KEYS[event.key] && isAsked() && answerByKey(event.key)) return doneByKey(event);
   if (KEYS[event.key] && scrollsBy(event.key, event.target)) return;
   if (KEYS[event.key]) move(KEYS[event.key]);
   else if (!drive.isOn || !driveByKey(event.key)) return;
-  event.preventDefault();
+  doneByKey(event);
 });
-document.addEventListener('pointerdown', event => {
+on(document, 'pointerdown', event => {
   const choice = event.target.closest('[data-choice]')?.dataset.choice;
   if (choice !== undefined) askAhead(choice);
 });
-document.addEventListener('click', event => {
+on(document, 'click', event => {
   const { copyLink: link, move: way, choices, depth, file, save, machine, choice, stall, judge, cycle, edges } = (event.target.closest('[data-choice]') ?? event.target).dataset;
   if (way !== undefined) move(way);
   else if (choice !== undefined) makeChoice(choice);
@@ -167,59 +166,59 @@ document.addEventListener('click', event => {
   else if (cycle !== undefined) drawCycle(Number(cycle));
   else if (edges !== undefined) sheet.cycle.move(edges);
 });
-wideBar.addEventListener('change', orderBar);
+on(wideBar, 'change', orderBar);
 orderBar();
 onPress({
   'drive-it': driveTest, 'to-answer': focusAnswer, 'copy-words': copyWords, begin, play: playOrPause, 'draw-seed': drawSeed, 'task-why': askWhy,
   'to-run': backToRun, 'find-outcomes': findOutcomes, 'ask-why': askWhy, 'copy-link': copyLink, 'remove-choices': removeChoices,
   'write-so': writeRepairs,
 });
-byId('line').addEventListener('input', event => show(event.target.value));
-byId('file').addEventListener('change', event => {
+on(byId('line'), 'input', event => show(event.target.value));
+on(byId('file'), 'change', event => {
   if (event.target.files.length > 0) takeFile(event.target.files[0]);
 });
-document.addEventListener('dragover', event => event.preventDefault());
-document.addEventListener('drop', event => {
+on(document, 'dragover', event => event.preventDefault());
+on(document, 'drop', event => {
   event.preventDefault();
   const { files } = event.dataTransfer;
   if (files.length > 0) takeFile(files[0]);
   else takeText(event.dataTransfer.getData('text'));
 });
 new IntersectionObserver(seen => seeChoices(seen.at(-1).isIntersecting)).observe(byId('choices'));
-byId('choices').addEventListener('input', forgetUnwritten);
-document.addEventListener('beforeinput', refuseTooLong);
-for (const id of WRITTEN) byId(id).addEventListener('input', writeOn);
-for (const id of ['test', 'given']) byId(id).addEventListener('scroll', () => placeLines(id));
-byId('commands').addEventListener('change', () => {
+on(byId('choices'), 'input', forgetUnwritten);
+on(document, 'beforeinput', refuseTooLong);
+for (const id of WRITTEN) on(byId(id), 'input', writeOn);
+for (const id of ['test', 'given']) on(byId(id), 'scroll', () => placeLines(id));
+on(byId('commands'), 'change', () => {
   showSettings(currentCommand());
   answerNow();
 });
-byId('settings').addEventListener('input', ({ target }) => {
+on(byId('settings'), 'input', ({ target }) => {
   lent.delete(target.id.slice('set-'.length));
   keepPosition(answerNow);
 });
-byId('skip').addEventListener('click', event => {
+on(byId('skip'), 'click', event => {
   event.preventDefault(); // what stands after # in the address is a test
-  (document.querySelector('[data-choice]:enabled') ?? byId('frame')).focus();
+  (query('[data-choice]:enabled') ?? byId('frame')).focus();
 });
-byId('speed').addEventListener('input', () => setSpeed(Number(byId('speed').value)));
-byId('beside-it').addEventListener('change', event => putBeside(event.target.value));
-byId('order-part').addEventListener('toggle', showOrder);
-byId('report-part').addEventListener('toggle', () => byId('report-part').open && showReport());
+on(byId('speed'), 'input', () => setSpeed(Number(byId('speed').value)));
+on(byId('beside-it'), 'change', event => putBeside(event.target.value));
+on(byId('order-part'), 'toggle', showOrder);
+on(byId('report-part'), 'toggle', () => byId('report-part').open && showReport());
 
-byId('caches').addEventListener('change', event => wantCaches(event.target.checked));
-byId('search').addEventListener('input', showLibrary);
-byId('comparison').addEventListener('toggle', () => bench.tso && compareNow());
-for (const scrolled of [window, byId('frame')]) scrolled.addEventListener('scroll', () => (shown.run || drive.isOn) && placeNames(), { passive: true });
-byId('test-part').addEventListener('toggle', placeAll);
+on(byId('caches'), 'change', event => wantCaches(event.target.checked));
+on(byId('search'), 'input', showLibrary);
+on(byId('comparison'), 'toggle', () => bench.tso && compareNow());
+for (const scrolled of [window, byId('frame')]) on(scrolled, 'scroll', () => (shown.run || drive.isOn) && placeNames(), { passive: true });
+on(byId('test-part'), 'toggle', placeAll);
 let resized = 0; // the timer of what is laid out once a window's size is settled
-window.addEventListener('resize', () => {
+on(window, 'resize', () => {
   clearTimeout(resized);
   resized = setTimeout(fitReason, 200);
   placeAll();
   if ((shown.run || drive.isOn) && !matchMedia('print').matches) redraw();
 });
-window.addEventListener('hashchange', showAddress);
+on(window, 'hashchange', showAddress);
 
 /** By which element the page says why it has no machine here; null where it has one. */
 function lackOf() {
@@ -244,7 +243,7 @@ async function start() {
     byId('bench').hidden = false; // with all else: nothing moves it
     showLibrary(); // with the texts that this machine reads
   } catch (fault) {
-    byId('message').textContent = `This browser can't open the machine (${fault.message}), so this page draws runs that were made elsewhere.`;
+    putMessage(`This browser can't open the machine (${fault.message}), so this page draws runs that were made elsewhere.`);
     return;
   }
   beginTeaching(told);
@@ -261,7 +260,7 @@ async function start() {
 function beginAtFirst() {
   const said = byId('message').textContent;
   answerNow(true);
-  byId('message').textContent = said;
+  putMessage(said);
   kept.atFirst = currentAddress();
 }
 

@@ -11,15 +11,15 @@ function writeAsked() {
   if (!isAsked) return;
   const made = drive.isOn ? drive.words.slice(0, drive.count).join(' ') : choicesText().trim();
   byId('paper-words').textContent = commandWords(command);
-  byId('paper-test').textContent = command === 'tables' ? '' : byId('test').value;
+  byId('paper-test').textContent = command === 'tables' ? '' : testNow();
   byId('paper-rest').textContent = command === 'run' ? `Choices: ${made === '' ? 'none' : made}` : readsOrder(command) ? byId('given').value : '';
 }
 
 function drawForPaper() {
   writeAsked();
-  if (drive.isOn) byId('frame').replaceChildren(...drawn.picture.onPaper());
-  else if (shown.run?.order.length > PAPER.whole) byId('frame').replaceChildren(...drawPieces(shown.run, shown.layout));
+  if (drive.isOn) fill(byId('frame'), ...drawn.picture.onPaper());
+  else if (shown.run?.order.length > PAPER.whole) fill(byId('frame'), ...drawPieces(shown.run, shown.layout));
 }
 
-window.addEventListener('beforeprint', drawForPaper);
-window.addEventListener('afterprint', () => (shown.run || drive.isOn) && redraw());
+on(window, 'beforeprint', drawForPaper);
+on(window, 'afterprint', () => (shown.run || drive.isOn) && redraw());

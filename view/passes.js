@@ -8,7 +8,7 @@ function lateRun(programs, depth) {
   const words = programs.flatMap((program, core) => program.flatMap((text, at) => wordsOf(text, at, core))).sort(([one], [other]) => one - other);
   const choices = words.map(([, word]) => word).join(' '), input = `${inputOf('sweep')}${DIVIDING_LINE}\n${choices}\n`;
   const { status, text } = depth > 0 ? asked({ command: 'run', json: true, depth }, input) : {};
-  const run = status === Tso.STATUS.good ? readLine(text.trim()) : null;
+  const run = status === GOOD ? readLine(text.trim()) : null;
   return run?.choices.get('stalled') + run?.choices.get('unused') === 0 ? { run, choices } : null;
 }
 
@@ -21,7 +21,7 @@ function drainedAtOnce(programs, choices) {
 class PassList {
   constructor(element) {
     Object.assign(this, { element, rows: [], none: html('li', {}), hasGrown: false });
-    element.replaceChildren(this.none);
+    fill(element, this.none);
   }
 
   /** Shows what the first entries of an order passed. */

@@ -64,7 +64,7 @@ function noteOf(entry, letters) {
   return nameOf(entry) + (notes.find(note => nameOf(entry).length + note.length <= letters) ?? '');
 }
 
-const coresOf = run => Array.from({ length: run.cores }, (_, core) => core);
+const coresOf = run => times(run.cores, core => core);
 
 const drawName = ({ lane, left }, core, y) => textAt({ class: 'head', x: left(core) + lane / 2, y }, 17, `P${core}`);
 
@@ -159,7 +159,7 @@ function drawFrame(layout, load) {
 /** The lanes' names over a piece of a picture that begins at this height, on a ground that hides what reaches up there. */
 const drawHead = (run, layout, y) => [
   svg('rect', { class: 'head-ground', x: 0, y: y - HEAD, width: layout.width, height: HEAD }),
-  svg('g', { class: 'names' }, ...coresOf(run).map(core => drawName(layout, core, y - HEAD + 23))),
+  svg('g', 'names', ...coresOf(run).map(core => drawName(layout, core, y - HEAD + 23))),
 ];
 
 /** The whole picture, or of it the rows from `first` to before `end` with all that goes through them. */

@@ -2,8 +2,8 @@
 
 // A list of tests for a lecture: each as its address tells it, with a way to the next and to the one before. It is saved with the page.
 
-/** The entry's number that was opened or added last, or -1; the address of the note, or null; what the bar says; whether one came from
- * behind; and the addresses of entries left changed. */
+/** The number of the last entry opened or added, or -1; the note's address, or null; what the bar says; whether one came from behind; the addresses of
+ * entries left changed. */
 const playlist = { at: -1, said: null, where: '', isFromBehind: false, left: new WeakMap() };
 
 const UNSAVED = ' Closing this tab loses the lecture: save it as a page.';
@@ -32,33 +32,33 @@ const isUnstepped = () => currentCommand() === 'run' && drive.isOn && drive.word
 
 /** Gives a test without choices those of the library, so that a lecture steps it. */
 function takeKnownChoices() {
-  const known = isUnstepped() && LIBRARY.map(({ text }) => partsOf(text)).find(({ test, rest }) => test === byId('test').value && /^\d/.test(rest));
+  const known = isUnstepped() && LIBRARY.map(({ text }) => partsOf(text)).find(({ test, rest }) => test === testNow() && /^\d/.test(rest));
   if (!known) return;
   putChoices(known.rest.trim());
   answerNow();
   goTo(0);
+  return choicesSaid(drive.words.length);
 }
 
 function addToList(before = taught.list.length) {
-  takeKnownChoices();
-  const one = entryNow(), at = taught.list.findIndex(({ address }) => address === one.address), isThere = at >= 0;
+  const known = takeKnownChoices(), one = entryNow(), at = taught.list.findIndex(({ address }) => address === one.address), isThere = at >= 0;
   if (!isThere && taught.list.length >= MOST_TAUGHT.tests) return sayListed(`The lecture has ${MOST_TAUGHT.tests} entries, and takes no more.`);
   if (!isThere) taught.list = taught.list.toSpliced(before, 0, one);
   playlist.at = isThere ? at : before;
   drawList();
-  const steps = isUnstepped() ? ' No choices to step.' : '';
+  const steps = known ? ` The page put in its run of ${known}.` : isUnstepped() ? ' No choices to step.' : '';
   sayListed(`${isThere ? 'It is there already, as' : 'Added as'} ${playlist.at + 1}: ${one.name}.${steps}${taught.list === playlist.saved ? '' : UNSAVED}`);
-  byId('list-part').scrollIntoView({ block: 'nearest' });
-  if (currentCommand() === 'why' && !isListed('run')) document.querySelector('#way-back .listed').append(' ', listButton({ 'data-add-run': '', class: 'main' }, 'Add the run too'));
+  bringNear(byId('list-part'));
+  if (currentCommand() === 'why' && !isListed('run')) query('#way-back .listed').append(' ', listButton({ 'data-add-run': '', class: 'main' }, 'Add the run too'));
 }
 
-/** Whether an entry has the test that is shown, with this command. */
-function hasShown({ address }, command) {
+/** Whether an entry has a test, with this command. */
+function hasShown({ address }, command, test = testNow()) {
   const told = new URLSearchParams(address);
-  return told.get('test') === byId('test').value && (!command || commandOf(told.get('command')) === command);
+  return told.get('test') === test && (!command || commandOf(told.get('command')) === command);
 }
 
-const isListed = command => taught.list.some(entry => hasShown(entry, command));
+const isListed = (command, test) => taught.list.some(entry => hasShown(entry, command, test));
 
 function addRun() {
   const { at } = playlist;
@@ -75,7 +75,7 @@ function updateListed() {
 
 function sayListed(sentence) {
   playlist.said = sentence === '' ? null : currentAddress();
-  for (const place of document.querySelectorAll('.listed')) putText(place, sentence);
+  for (const place of queryAll('.listed')) putText(place, sentence);
 }
 
 /** Whether what is shown is of the test, and of the command too, of the entry that was opened or added last. */
@@ -90,12 +90,17 @@ const isChangedEntry = () => !isLecture() && isOfEntry() && withoutPlace(taught.
 
 const isToUpdate = () => isChangedEntry() && !isExercise();
 
+/** Puts the list where one adds. */
+function placeList() {
+  const part = byId('list-part'), place = byId(byId('way-back').hidden ? 'saves' : 'way-back');
+  if (part.parentElement !== place) place.append(part);
+}
+
 /** Keeps what is said of the list with what is shown: other notes go, and a changed entry can be put anew. */
 function followShown() {
-  const isChanged = isToUpdate(), part = byId('list-part'), place = byId(byId('run').hidden ? 'way-back' : 'saves');
-  if (part.parentElement !== place) place.append(part); // where one adds
+  const isChanged = isToUpdate();
   if (playlist.said !== null && playlist.said !== currentAddress()) sayListed('');
-  for (const button of document.querySelectorAll('[data-update-list]')) {
+  for (const button of queryAll('[data-update-list]')) {
     button.hidden = !isChanged;
     putText(button, `Update ${playlist.at + 1} of ${taught.list.length}`);
   }
@@ -129,8 +134,7 @@ function raiseInList(at) {
   drawList();
 }
 
-/** Opens a test of the list: a run at its start, or at its end (`isAtEnd`) for who goes back. One left changed is so still, but not in a
- * lecture. */
+/** Opens a test of the list: a run at its start, or at its end (`isAtEnd`). One left changed is so still, but not in a lecture. */
 function openListed(at, isAtEnd = false) {
   const entries = toGoThrough();
   if (entries[at] === undefined) return;
@@ -141,63 +145,68 @@ function openListed(at, isAtEnd = false) {
   const entry = taught.list[at], left = isLecture() ? undefined : playlist.left.get(entry);
   playlist.left.delete(entry);
   openTest(left ?? entry.address);
+  showInTurn(isAtEnd ? undefined : 0);
+  notePrepared();
   if (drive.isOn) goTo(isAtEnd ? drive.words.length : 0);
   foldList();
   drawList();
 }
 
-/** Of a cycle to which one came from the next test: shows its last arrow. */
+/** Of an answer to which one came from the next test: shows its last arrow, or all outcomes. */
 function showFromBehind() {
+  showInTurn(playlist.isFromBehind ? undefined : 0);
   if (playlist.isFromBehind) sheet.cycle?.move('all');
   playlist.isFromBehind = false;
   showFoot();
 }
 
-const listButton = (attributes, text, isOff = false) => html('button', { type: 'button', ...attributes, ...(isOff ? { disabled: '' } : {}) }, text);
+const listButton = (attributes, text, isOff = false) => html('button', { ...attributes, ...(isOff ? { disabled: '' } : {}) }, text);
 
 function whereInList() {
   const { list } = taught, { at } = playlist, place = `${at + 1} of ${list.length}`, all = manyEntries(list);
+  if (lastLecture.isJust && isOfEntry(false)) return 'PageDown goes on with the lecture';
   if (at < 0) return all;
   if (isOfEntry()) return `${place}${isToUpdate() ? ', changed' : ''}: ${list[at].name}`;
-  return isOfEntry(false) ? `${place}: ${plainName(list[at])}, ${currentCommand()}` : `Not in the lecture of ${all}`;
+  const isThere = isListed(currentCommand());
+  if (isOfEntry(false)) return `${isThere ? place : 'Not in the lecture yet'}: ${plainName(list[at])}, ${currentCommand()}`;
+  return isThere ? all : `Not in the lecture of ${all}`;
 }
 
 const plainName = entry => ownNameOf(entry) || entry.name.split(':')[0];
 
 const listFile = kind => fileName(`${kind}-${plainName(taught.list[0]).toLowerCase()}`, '.html');
 
-/** The bar over the machine: which entry is shown, and the ways to the one before and the next. In a lecture the foot, which says what
- * PageDown does; there names tell no answer. */
+/** The bar over the machine: which entry is shown, and the ways to the ones before and after. In a lecture the foot, whose names tell no answer. */
 function drawBar() {
   const { list } = taught, { at } = playlist, isEnd = at + 1 >= list.length;
   byId('list-bar').hidden = list.length === 0 && !isLecture();
   if (isLecture()) return drawFoot();
   playlist.where = whereInList();
   const next = !isEnd ? `Next: ${list[at + 1].name} ▶` : at > 0 ? LIST_END : 'Next ▶', isOther = list[at] !== undefined && !isOfEntry(false), isOut = at >= 0 && !isOfEntry(isEnd);
-  byId('list-bar').replaceChildren(isOther ? listButton({ 'data-listed': at }, `◀ ${list[at].name}`) : listButton({ 'data-listed': at - 1 }, '◀ Previous', at <= 0), html('span', {}, playlist.where),
+  fill(byId('list-bar'), isOther ? listButton({ 'data-listed': at }, `◀ ${list[at].name}`) : listButton({ 'data-listed': at - 1 }, '◀ Previous', at <= 0), html('span', {}, playlist.where),
     ...(isToUpdate() ? [listButton({ 'data-update-list': '' }, `Update ${at + 1} of ${list.length}`)] : []), ...(isOut ? [] : [listButton({ 'data-listed': at + 1 }, next, isEnd)]));
 }
 
-/** An entry's name in the foot: where another is of the same test, with what it shows. */
-function nameInFoot(entry) {
-  const name = plainName(entry), isTwice = toGoThrough().filter(each => plainName(each) === name).length > 1;
-  return isTwice ? `${name}: ${commandOf(new URLSearchParams(entry.address).get('command'))}` : name;
-}
-
 function drawFoot() {
-  const entries = toGoThrough(), next = entries[placeNow() + 1], isNamed = next && onward()?.[0] === saidOfNext(next), { length } = taught.list;
-  const way = (at, before, after, name = entries[at] && nameInFoot(entries[at])) => (!name ? html('i', {}) : html('button', { type: 'button', 'data-listed': at, class: 'quiet' }, before, html('span', {}, name), after));
+  const entries = toGoThrough(), { length } = taught.list, way = (at, text) => (entries[at] ? listButton({ 'data-listed': at, class: 'quiet' }, text) : html('i', {}));
   playlist.where = footSaid();
-  byId('list-bar').replaceChildren(way(placeBefore(), '◀ ', ''), listButton({ 'data-onward': '', class: 'quiet' }, playlist.where, !onward()), way(placeNow() + 1, '', ' ▶', isNamed ? 'Next' : undefined));
+  fill(byId('list-bar'), way(placeBefore(), '◀ Previous'), listButton({ 'data-onward': '', class: 'quiet' }, playlist.where, !onward()), way(placeNow() + 1, 'Next ▶'));
   setAll(byId('asked-line'), { 'data-place': length > 1 && isOfEntry(false) ? `${playlist.at + 1} of ${length}` : '' });
 }
 
 function drawList() {
   drawOfList();
   const way = (name, each, label, text, isOff) => [' ', listButton({ [`data-${name}`]: each, class: 'quiet', 'aria-label': label }, text, isOff)];
-  byId('list').replaceChildren(...taught.list.map(({ name }, each, { length }) => html('li', {}, listButton({ 'data-listed': each, class: 'quiet' }, name),
+  fill(byId('list'), ...taught.list.map(({ name, address }, each, { length }) => html('li', {}, listButton({ 'data-listed': each, class: 'quiet' }, name),
     ...way('raised', each, `Move ${name} up`, 'up', each === 0), ...way('raised', each + 1, `Move ${name} down`, 'down', each === length - 1),
-    ...way('renamed', each, `Rename ${name}: in a lecture that is the headline`, 'rename'), ...way('unlisted', each, `Take ${name} off the lecture`, 'take off'))));
+    ...way('renamed', each, `Rename ${name}: in a lecture that is the headline`, 'rename'), ...way('unlisted', each, `Take ${name} off the lecture`, 'take off'), html('span', 'faint', hasReasonAfter(address) ? ' then its reason, by arrows' : ''))));
+}
+
+/** Whether the reason follows a run of the list, as `isWhyNext` has it. */
+function hasReasonAfter(address) {
+  const told = new URLSearchParams(address), test = told.get('test') ?? '';
+  return commandOf(told.get('command')) === 'run' && quantifierOf(test) !== null && !told.has('beside') &&
+    !(told.has('caches') ? told.get('caches') === '1' : SETTINGS_OF_CACHES.some(name => told.has(name))) && !isListed('why', test);
 }
 
 function drawOfList() {
@@ -206,19 +215,19 @@ function drawOfList() {
   const { list } = taught;
   byId('list-part').hidden = list.length === 0;
   sayList();
-  document.querySelectorAll('[data-lecture]').forEach(nameLecture);
+  queryAll('[data-lecture]').forEach(nameLecture);
   byId('save-exercises').hidden = list.length < 2;
-  for (const button of document.querySelectorAll('[data-save=page]')) putText(button, `Save ${list.length < 2 ? '' : 'the lecture '}as a page`);
+  for (const button of queryAll('[data-save=page]')) putText(button, `Save ${list.length < 2 ? '' : 'the lecture '}as a page`);
   drawBar();
   followShown();
 }
 
 const manyEntries = ({ length }) => `${length} ${length === 1 ? 'entry' : 'entries'}`;
 
-/** Over the list what is in it, below it whether it is saved. */
+/** Over the list how much is in it, below it whether it is saved. */
 function sayList() {
   const { list } = taught;
-  putText(byId('list-said'), `Lecture: ${byId('list-part').open ? manyEntries(list) : list.map((each, at) => `${at + 1} ${each.name}`).join(' · ')}`);
+  putText(byId('list-said'), `Lecture: ${manyEntries(list)}`);
   putText(byId('list-kept'), list === playlist.saved ? 'Saved. After a change save it again:' : 'Closing this tab loses the lecture:');
 }
 
@@ -226,18 +235,22 @@ function sayList() {
 function renameListed(at) {
   const item = byId('list').children[at], { name: old } = taught.list[at];
   const field = html('input', { type: 'text', inputmode: 'text', maxlength: MOST_NAME, 'aria-label': 'Name in the lecture', 'data-name-of': at });
+  const limit = html('div', { role: 'status' });
   field.value = old;
   item.firstElementChild.replaceWith(field);
+  item.append(limit);
   field.focus();
   field.select();
-  field.addEventListener('blur', () => {
+  on(field, 'input', () => putText(limit, field.value.length < MOST_NAME ? '' : `${MOST_NAME} letters at most.`));
+  on(field, 'blur', () => {
+    limit.remove();
     const name = field.value.trim() || old;
     taught.list = taught.list.with(at, { ...taught.list[at], name });
     for (const each of item.querySelectorAll('button')) each.ariaLabel = each.ariaLabel.replace(old, () => name);
     field.replaceWith(listButton({ 'data-listed': at, class: 'quiet' }, name));
     drawOfList();
   });
-  field.addEventListener('keydown', event => {
+  on(field, 'keydown', event => {
     if (!['Enter', 'Escape'].includes(event.key)) return;
     event.stopPropagation();
     event.preventDefault(); // so that the same key doesn't press what gets the focus
@@ -247,21 +260,20 @@ function renameListed(at) {
   });
 }
 
+on(byId('list-part'), 'toggle', ({ target }) => target.open && bringNear(target));
+
 function foldList() {
-  document.querySelector('#list-part:focus-within > summary')?.focus();
+  query('#list-part:focus-within > summary')?.focus();
   byId('list-part').open = false;
 }
 
-byId('list-part').addEventListener('toggle', sayList);
-document.addEventListener('click', ({ target }) => {
+on(document, 'click', ({ target }) => {
   const { listed, unlisted, raised, renamed } = target.dataset ?? {};
   if (listed !== undefined) openListed(Number(listed));
   else if (raised !== undefined) raiseInList(Number(raised));
   else if (renamed !== undefined) renameListed(Number(renamed));
   else if (unlisted !== undefined) dropFromList(Number(unlisted));
-});
-document.addEventListener('click', ({ target }) => {
-  if (target.matches('[data-add-to-list]')) addToList();
+  else if (target.matches('[data-add-to-list]')) addToList();
   else if (target.matches('[data-add-run]')) addRun();
   else if (target.matches('[data-update-list]')) updateListed();
 });

@@ -5,9 +5,15 @@
 const POSSIBLE_CASES = 3000; // that may be told apart: so many take well under a second
 const ASK_AFTER = 250; // milliseconds without another test
 
-/** What is known of a test (`test` is its text): true where what it asks for can be, false where it can't, null where that isn't known;
- * whether the answer is still to come; and the test of which a sheet said that it can't be (`refuted`), and that for which why found a run (`found`). */
-const possible = { test: null, can: null, isAsked: false, timer: null, task: null, refuted: null, found: null };
+/** What is known of a test: whether what it asks for can be, or null; whether that is still to come; the test of which a sheet said that it can't
+ * (`refuted`), and the run that why found last (`way`). */
+const possible = { test: null, can: null, isAsked: false, timer: null, task: null, refuted: null, way: null };
+
+/** Notes what `why` answered, with the run that it found. */
+function noteAnswer(test, { answer, choices, values, asked: sought }) {
+  Object.assign(possible, { test, can: answer === undefined ? null : answer === 'allowed' });
+  if (values) possible.way = { test, choices, values, holds: sought?.truth };
+}
 
 /** Whether it stands in a list before an answer, which it must not give away. */
 const isBeforeAnswer = () => isOfEntry() && taught.list.slice(playlist.at + 1).some(entry => hasShown(entry, 'why') || hasShown(entry, 'outcomes'));
@@ -19,7 +25,7 @@ const canBe = () => (possible.test === drive.test ? possible.can : null);
 
 /** Asks soon about the test that is driven, where nothing is known of it yet. */
 function askPossibleSoon() {
-  if (possible.test === drive.test || !document.querySelector('#commands [value=why]')) return;
+  if (possible.test === drive.test || !query('#commands [value=why]')) return;
   const isFirst = drive.test === partsOf(EXAMPLES[FIRST_TEXT]).test; // which can be, as a row of the tests asks: so the page opens with its task
   possible.task?.stop();
   Object.assign(possible, { test: drive.test, can: isFirst || null, isAsked: !isFirst, task: null });
@@ -32,8 +38,7 @@ async function askPossible() {
   try {
     const [{ status, text }] = await task.answers;
     if (possible.task !== task) return;
-    const { answer } = status === Tso.STATUS.good ? JSON.parse(text) : {};
-    possible.can = answer === undefined ? null : answer === 'allowed';
+    noteAnswer(test, status === GOOD ? JSON.parse(text) : {});
   } catch {
     possible.can = null; // the task stays a question
   }

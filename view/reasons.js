@@ -24,7 +24,7 @@ function reasonSentence(told, proposition) {
 /** Herd's word on the whole condition, where there is one; empty where the test has none. */
 function verdictWords(verdict) {
   if (verdict === null || verdict === undefined) return '';
-  const claim = { '~exists': 'no run ends', forall: 'each run ends' }[quantifierOf(byId('test').value)] ?? 'a run ends';
+  const claim = { '~exists': 'no run ends', forall: 'each run ends' }[quantifierOf(testNow())] ?? 'a run ends';
   return ` Verdict ${verdict}: the test claims that ${claim} so, which is ${verdict === 'Ok' ? 'true' : 'false'}.`;
 }
 
@@ -36,7 +36,7 @@ function falseSentence(places) {
   const bare = places.filter(([, words]) => words.length === 0).map(([place]) => placeName(place));
   if (bare.length > 0) return `It can't be: no word is left that ${eitherOf(bare)} could have at the end.`;
   const ends = places.map(([place, words]) => `${placeName(place)} ends as ${eitherOf(words.map(String))}`);
-  return `Then ${places.length === 0 ? 'whatever is left' : listed(ends)}, which isn't what is asked for.`;
+  return `Then ${places.length === 0 ? 'whatever is left' : listed(ends)}, which isn't what ${isClaim(sheet.test) ? 'a counterexample needs' : 'is asked for'}.`;
 }
 
 const EVENT_FORM = 'P\\d:\\d+ (?:LR|LW|R|W) \\w+(?:=\\d+)?';
@@ -121,7 +121,7 @@ const READS_FROM = factForm('(EVENT) from (initial|EVENT)');
 /** The answers that a case takes; all that one read can read are listed. */
 function caseWords(answers) {
   const reads = answers.map(facts => (facts.length === 1 ? READS_FROM.exec(facts[0]) : null)), read = reads[0]?.[1];
-  const isOne = answers.length > 1 && reads.every(found => found?.[1] === read);
+  const isOne = answers.length > 1 && read && reads.every(found => found?.[1] === read);
   return isOne ? `Whichever of these ${read} reads, ${eitherOf(reads.map(([, , source]) => sourceText(source)))}` : `If ${answersWords(answers)}`;
 }
 
@@ -156,10 +156,10 @@ const cyclesOf = steps => steps.map((step, at) => ({ cycle: closingOf(step).cycl
 
 /** A tree as nested lists, of which each case folds. A cycle has a button that draws it. */
 function treeList(nodes, steps, isOpen) {
-  return html('ul', { class: 'cases' }, ...nodes.map(({ step, parts }) => {
+  return html('ul', 'cases', ...nodes.map(({ step, parts }) => {
     if (parts) return html('li', {}, html('details', isOpen ? { open: '' } : {}, html('summary', {}, stepSentence(step)), treeList(parts, steps, isOpen)));
     const at = steps.indexOf(step);
-    const draw = closingOf(step).cycle ? [' ', html('button', { type: 'button', 'data-cycle': at, 'aria-pressed': 'false' }, 'Draw it')] : [];
+    const draw = closingOf(step).cycle ? [' ', html('button', { 'data-cycle': at, 'aria-pressed': 'false' }, 'Draw it')] : [];
     return html('li', { class: `step-${step.step}`, 'data-step': at }, stepSentence(step), ...draw);
   }));
 }
@@ -219,8 +219,8 @@ function laterEdges({ from, relation, to }, edges) {
 const FAR = 100; // more than a cycle's edges
 const NO_STEP = ({ edge, from, to }) => from[1] === to[1] && (['rf', 'co', 'fr'].includes(edge.relation) || (edge.relation === 'po' && /W$/.test(from) && /R$/.test(to)));
 
-/** A cycle with as many as can be of the loads at the places that are `wanted`, a shortest one of these (`isShort`: a shortest one of all, with any); null
- * where none has any. It comes to each core once, first to the one with the least number. */
+/** A shortest cycle with as many as can be of the loads at the places `wanted` (`isShort`: with any); null where none has any. It comes to each core
+ * once, first to the least. */
 function cycleThrough(wanted, leaving, isShort) {
   const isAsked = name => Number(isLoad(name) && isNamed(name, wanted)), coreOfName = name => Number(name[1]);
   const rank = ({ asked, edges }) => (isShort ? asked - FAR * edges.length : FAR * asked - edges.length), isBetter = (one, other) => other === null || rank(one) > rank(other);
@@ -250,8 +250,8 @@ function cycleThrough(wanted, leaving, isShort) {
 const isLoad = text => nameOfEvent(text).endsWith('R');
 const isNamed = (text, wanted) => wanted.includes(text.split(' ')[0]);
 
-/** A cycle of an execution's edges and program order, or an empty one: of what is `wanted` alone (loads, and orders of writes to a last one), else with as much of it
- * as can be, else a shortest one. It begins with an order that TSO doesn't keep, that of a store and one of the `loads` that passed it. */
+/** A cycle of an execution's edges and program order, or an empty one: of what is `wanted` alone (loads, orders of writes), else with as much of it as
+ * can be, else a shortest. It begins with a store and one of the `loads` that passed it. */
 function forbiddenCycle(edges, programs, loads, wanted) {
   const stepOf = edge => ({ edge, from: nameOfEvent(edge.from), to: nameOfEvent(edge.to) }), steps = [...edges, ...edgesOfPrograms(edges, programs)].map(stepOf);
   const leavingOf = some => new Map(some.map(({ from }) => [from, some.filter(step => step.from === from)])), leaving = leavingOf(steps);
@@ -277,7 +277,7 @@ function isExecution(order, { sources, coherence }) {
 
 /** An execution in words: what each read returned, the order of writes, and what is left. */
 function executionTables({ sources, coherence, values }) {
-  const row = (name, ...cells) => html('tr', {}, html('th', { scope: 'row' }, name), ...cells.map(cell => html('td', { class: 'wraps' }, cell)));
+  const row = (name, ...cells) => html('tr', {}, html('th', { scope: 'row' }, name), ...cells.map(cell => html('td', 'wraps', cell)));
   return [
     tableOf('What each read returns', ['Read', 'Of'], sources.map(({ read, write }) => row(read, write === 'initial' ? 'the initial value' : write))),
     tableOf('In which order writes reach memory', ['Location', 'Writes'], Object.entries(coherence).map(([location, writes]) => row(location, writes.join(', ')))),
@@ -287,6 +287,6 @@ function executionTables({ sources, coherence, values }) {
 
 /** Says under an answer as text which of its words the picture has otherwise. */
 function putReportKey(text) {
-  const key = byId('report-part').querySelector('.report-key') ?? byId('report-part').appendChild(html('p', { class: 'small report-key' }));
+  const key = query('#report-part .report-key') ?? byId('report-part').appendChild(html('p', 'small report-key'));
   putText(key, currentCommand() === 'why' && text.includes('implied') ? '“implied” is “lock” in the picture.' : '');
 }

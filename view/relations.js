@@ -69,8 +69,10 @@ const letterOf = (name, isNarrow = false) => (isNarrow && relationNamed(name).sh
 /** An arrow's name: a to z, then aa and so on. */
 const arrowName = at => (at < 26 ? '' : arrowName(Math.floor(at / 26) - 1)) + String.fromCharCode(97 + at % 26);
 
-/** The same behind the arrow's name. */
-const lettersAt = (edges, at, isNarrow) => `${arrowName(at)} ${letterOf(edges[at].relation, isNarrow)}`;
+const NAMED = 'named';
+
+/** The same behind the arrow's name, which stands alone in NAMED lanes. */
+const lettersAt = (edges, at, isNarrow) => (isNarrow === NAMED ? arrowName(at) : `${arrowName(at)} ${letterOf(edges[at].relation, isNarrow)}`);
 
 const relationNamed = name => (Object.hasOwn(RELATIONS, name) ? RELATIONS[name] : UNKNOWN_RELATION);
 const edgeSentence = ({ from, relation, to }) => relationNamed(relation).says(eventWords(from), eventWords(to));

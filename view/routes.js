@@ -14,8 +14,8 @@ const amongEquals = (keys, ranks = keys) => keys.map((key, at) => {
 /** The lanes of an edge's two events. */
 const lanesOf = ({ from, to }) => [from, to].map(text => eventOf(text).core);
 
-/** Of each edge within a core at which side of its lane its way is: 1 at the right, -1 at the left; 0 of others. A core's first way is nearer to the picture's
- * edge. Of those at a side a shorter one reaches less far: such a `share` of what is there. */
+/** At which side of its lane each way within a core is: 1 right, -1 left, 0 of others. A core's first way is nearer to the picture's edge; a shorter
+ * one reaches less far (`share`). */
 function ownWays(edges, cores) {
   const lanes = edges.map(lanesOf).map(([from, to], at) => (from === to ? from : `other ${at}`));
   const sides = amongEquals(lanes).map(({ number }, at) => (lanes[at] < cores ? (2 * lanes[at] < cores - 1 || cores === 1) === (number % 2 === 0) ? -1 : 1 : 0));
@@ -58,19 +58,19 @@ function farEdges(edges) {
 }
 
 /** How many channels stand under each of so many rows. */
-const channelsOf = (far, rows) => Array.from({ length: rows }, (_, row) => far.filter(each => each?.row === row).length);
+const channelsOf = (far, rows) => times(rows, row => far.filter(each => each?.row === row).length);
 
 /** Points along a curve of four points. */
 function alongCurve([a, b, c, d]) {
   const mix = (t, which) => (1 - t) ** 3 * a[which] + 3 * (1 - t) ** 2 * t * b[which] + 3 * (1 - t) * t ** 2 * c[which] + t ** 3 * d[which];
-  return Array.from({ length: ROUTES.samples + 1 }, (_, at) => [mix(at / ROUTES.samples, 0), mix(at / ROUTES.samples, 1)]);
+  return times(ROUTES.samples + 1, at => [mix(at / ROUTES.samples, 0), mix(at / ROUTES.samples, 1)]);
 }
 
 /** Points along straight lines. */
 function alongLines(corners) {
   return corners.slice(1).flatMap(([x, y], at) => {
     const [fromX, fromY] = corners[at], count = Math.max(1, Math.ceil(Math.hypot(x - fromX, y - fromY) / ROUTES.sample));
-    return Array.from({ length: count }, (_, step) => [fromX + (x - fromX) * step / count, fromY + (y - fromY) * step / count]);
+    return times(count, step => [fromX + (x - fromX) * step / count, fromY + (y - fromY) * step / count]);
   }).concat([corners.at(-1)]);
 }
 
@@ -106,8 +106,8 @@ function wayOfTwoCores(layout, start, end, [y1, y2], far, tracks) {
 
 const TRACKS = { row: 1e4, zone: 1e6 };
 
-/** Which gutter each edge goes through, and its rank there from the left: what goes past other cores is nearer to its box than what goes between these two, and
- * nearest is what turns off first. Two entries for each edge. */
+/** Which gutter each edge goes through, and its rank there from the left: nearer to its box is what goes past other cores, nearest what turns off first.
+ * Two entries an edge. */
 function tracksWanted({ far, isNarrow }, edges, ports) {
   return edges.flatMap((edge, at) => {
     const [from, to] = lanesOf(edge);
@@ -157,8 +157,7 @@ function chipAt(layout, [x, y], letters) {
   return { x: centre - width / 2, y: y - ROUTES.chip / 2, width, height: ROUTES.chip };
 }
 
-/** Of a way's points those that a chip may stand at: of a way within a core its middle first, of others those near the start, since these ways cross in
- * the middle. */
+/** A way's points that a chip may stand at: within a core its middle first, of others those near the start, since these ways cross in the middle. */
 function chipPoints(points, isWithin) {
   const parts = [...(isWithin ? [0.5, 0.46, 0.54] : []), 0.24, 0.3, 0.18, 0.36, 0.42, 0.5, 0.58, 0.66, 0.74, 0.82, 0.12, 0.27, 0.21, 0.33, 0.39, 0.46, 0.54, 0.62, 0.7, 0.78, 0.86, 0.9];
   return parts.map(part => points[Math.round(part * (points.length - 1))]);

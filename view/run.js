@@ -10,8 +10,8 @@ function showStep(step) {
   const entry = run.order[shown.step - 1];
   byId('count').textContent = `After ${shown.step} of ${run.order.length} entries`;
   byId('sentence').textContent = entry ? `${entry.text}: ${sentenceOf(run, entry)}` : 'Before the first entry: memory as it was at the start.';
-  byId('words').replaceChildren(...wordItems(run, entry));
-  for (const button of document.querySelectorAll('[data-move]')) {
+  fill(byId('words'), ...wordItems(run, entry));
+  for (const button of queryAll('[data-move]')) {
     button.disabled = ['first', 'back'].includes(button.dataset.move) ? shown.step === 0 : shown.step === run.order.length;
   }
   markStep(layout, entry);
@@ -21,7 +21,7 @@ function wordItems(run, entry) {
   const words = [...memoryAfter(run, shown.step)];
   const items = words.map(([location, word]) => {
     const isChanged = entry !== undefined && isWrite(entry) && entry.location === location;
-    return html('li', { class: isChanged ? 'word changed' : 'word' }, `${location}=${word ?? '?'}`);
+    return html('li', isChanged ? 'word changed' : 'word', `${location}=${word ?? '?'}`);
   });
   const isUntold = words.some(([, word]) => word === undefined);
   return isUntold ? [...items, html('li', {}, '?: no read returned this initial value, so the line doesn\'t tell it')] : items;
@@ -33,7 +33,7 @@ function markStep(layout, entry) {
   setAll(picture.querySelector('.unseen'), { y, height: layout.height - y });
   setAll(picture.querySelector('.cursor'), { y1: y, y2: y });
   setAll(picture.querySelector('.band'), { y: layout.top(shown.step - 1), visibility: entry ? 'visible' : 'hidden' });
-  for (const arrow of picture.querySelectorAll('[data-to]')) arrow.classList.toggle('now', Number(arrow.dataset.to) === entry?.index);
+  for (const arrow of picture.querySelectorAll('[data-to]')) putClass(arrow, 'now', Number(arrow.dataset.to) === entry?.index);
 }
 
 function redraw() {
@@ -43,8 +43,8 @@ function redraw() {
     return keepInSight();
   }
   shown.layout = layoutOf(shown.run, byId('run').clientWidth);
-  byId('frame').replaceChildren(drawPicture(shown.run, shown.layout));
-  byId('lanes').replaceChildren(drawNames(shown.run, shown.layout));
+  fill(byId('frame'), drawPicture(shown.run, shown.layout));
+  fill(byId('lanes'), drawNames(shown.run, shown.layout));
   showStep(shown.step);
   placeNames();
 }
@@ -52,8 +52,8 @@ function redraw() {
 /** Keeps the lanes' names in sight: above the picture, where the picture's own are behind what stands still. */
 function placeNames() {
   if (drive.isOn) return placeDriven();
-  const { top, bottom } = byId('frame').getBoundingClientRect(), edge = byId('stepper').getBoundingClientRect().bottom;
-  byId('lanes').classList.toggle('needed', top < edge - HEAD && bottom > edge);
+  const { top, bottom } = boxOf(byId('frame')), edge = boxOf(byId('stepper')).bottom;
+  putClass(byId('lanes'), 'needed', top < edge - HEAD && bottom > edge);
   byId('lanes').scrollLeft = byId('frame').scrollLeft;
 }
 
@@ -64,7 +64,7 @@ function showRun(run, line) {
   byId('machine').textContent = machineSentence(run);
   byId('verdict').textContent = verdictSentence(run);
   putItems(byId('passes'), passesOf(run.order));
-  byId('left').replaceChildren(...finalTables(run));
+  fill(byId('left'), ...finalTables(run));
   byId('order-part').open = true;
   showOrder();
   byId('comparison').hidden = true;
@@ -78,7 +78,7 @@ function hideRun() {
   shown.run = null;
   endDrive();
   byId('address').hidden = byId('run').hidden = byId('no-steps').hidden = true;
-  byId('message').textContent = '';
+  putMessage('');
 }
 
 function show(text) {
@@ -86,11 +86,11 @@ function show(text) {
   if (text.trim() === '') return;
   try {
     const read = readLine(text);
-    if (read.unfinished) byId('message').textContent = unfinishedSentence(read.unfinished);
+    if (read.unfinished) putMessage(unfinishedSentence(read.unfinished));
     else showRun(read, text.trim());
   } catch (fault) {
     if (!(fault instanceof Refusal)) throw fault;
-    byId('message').textContent = fault.message;
+    putMessage(fault.message);
   }
 }
 
@@ -105,6 +105,6 @@ const KEYS = { Home: 'first', ArrowLeft: 'back', ArrowRight: 'forward', End: 'la
 function move(name) {
   if (drive.isOn) return moveDriven(name);
   showStep(MOVES[name]());
-  document.documentElement.style.scrollPadding = `${byId('stepper').offsetHeight + 2 * ROW}px 0 ${2 * ROW}px`; // below what stands still
+  ROOT.style.scrollPadding = `${byId('stepper').offsetHeight + 2 * ROW}px 0 ${2 * ROW}px`; // below what stands still
   byId('frame').querySelector(`[data-entry="${shown.step - 1}"]`)?.scrollIntoView({ block: 'nearest', inline: 'nearest' });
 }

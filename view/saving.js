@@ -27,8 +27,7 @@ const saveText = (name, text, type = 'text/plain', more = '') => saveAndSay(name
 const STYLED = ['fill', 'stroke', 'stroke-width', 'stroke-dasharray', 'paint-order', 'opacity', 'font-family', 'font-weight', 'font-size', 'text-anchor'];
 const OF_THE_SCREEN = '.unseen, .cursor, .band';
 
-/** The picture that is shown: its parts, the lowest first, and its measures. Of a run that isn't over it is what has come, with the
- * lanes' names, which stand apart from it on the page. */
+/** The picture that is shown: its parts, the lowest first, and its measures. Of a run that isn't over it has what came, with the lanes' names. */
 function pictureNow() {
   if (drive.isOn) return { parts: drawn.picture.parts, label: drawn.picture.label, y: 0, width: drawn.picture.layout.width, height: drawn.picture.bottom };
   const picture = byId('frame').firstChild, { y, width, height } = picture.viewBox.baseVal;
@@ -48,7 +47,7 @@ function withWholeCycle(act) {
 
 /** What the sheet of `why` draws: a cycle, or an execution. */
 function pictureOfReason() {
-  const figure = byId('states').querySelector('.reason figure'), [picture] = figure.children, { width, height } = picture.viewBox.baseVal;
+  const figure = query('#states .reason figure'), [picture] = figure.children, { width, height } = picture.viewBox.baseVal;
   return { parts: [...picture.children], label: figure.getAttribute('aria-label'), y: 0, width, height };
 }
 
@@ -67,11 +66,11 @@ const inXml = text => text.replace(/[^\t\n\r\u{20}-\u{d7ff}\u{e000}-\u{fffd}\u{1
 
 /** What an act makes while the page has its light colours, where saved pictures are to be light whatever is preferred. */
 function inColoursOfSaved(act) {
-  document.documentElement.classList.toggle('light', byId('saved-colours').value === 'light');
+  putClass(ROOT, 'light', byId('saved-colours').value === 'light');
   try {
     return act();
   } finally {
-    document.documentElement.classList.remove('light');
+    ROOT.classList.remove('light');
   }
 }
 
@@ -123,7 +122,7 @@ async function savePoints(name, picture) {
   try {
     saveAndSay(fileName(name, '.png'), await pictureInPoints(picture));
   } catch (fault) {
-    byId('message').textContent = `The picture isn't saved: ${fault.message}.`;
+    putMessage(`The picture isn't saved: ${fault.message}.`);
   }
 }
 

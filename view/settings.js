@@ -2,38 +2,33 @@
 
 // What is set: the command, the machine, and what a sweep, counts or a search go by.
 
+const OF_MACHINE = ['protocol', 'bus', 'depth', 'sets', 'ways', 'words'], OF_SEEDS = [...OF_MACHINE, 'from', 'seeds', 'length'];
+
 /** Which settings each command looks at; the others are out of sight. */
 const SETTINGS = {
-  run: ['protocol', 'bus', 'depth', 'sets', 'ways', 'words'],
+  run: OF_MACHINE,
   outcomes: ['searched', 'states'],
-  sweep: ['protocol', 'bus', 'depth', 'sets', 'ways', 'words', 'from', 'seeds', 'length'],
-  counts: ['protocol', 'bus', 'depth', 'sets', 'ways', 'words', 'from', 'seeds', 'length'],
+  sweep: OF_SEEDS,
+  counts: OF_SEEDS,
   check: [],
   witness: ['depth'],
   tables: ['protocol'],
   why: ['model', 'cases'],
 };
 const CHOSEN = ['protocol', 'bus', 'model'];
-/** What each command answers. */
-const ANSWERS_OF = {
-  run: 'One run, made by your choices.', outcomes: 'All final values of what the condition names, with choices that lead to each.',
-  sweep: 'How often each outcome comes, in the runs of many seeds.', counts: 'What the caches did, in the runs of many seeds.',
-  check: 'Whether an order is one of TSO.', witness: 'Choices that lead to an order.', tables: 'The table of a protocol.',
-  why: 'Why the end that is asked for can\'t be, or how it can.',
-};
 /** What the button says that begins a long command. */
-const BEGINS = { outcomes: 'Find all outcomes', sweep: 'Run the seeds', counts: 'Count the runs', why: 'Say why' };
+const BEGINS = { outcomes: 'Find all outcomes', sweep: 'Run the seeds', counts: 'Count the runs', why: 'Why can or can\'t it be?' };
 /** The settings by the page's names: `searched` is the depth of a search, with a default of its own. */
 const SET_AT_FIRST = { ...Tso.DEFAULTS, searched: 32 };
-const SET_NAMES = ['protocol', 'bus', 'depth', 'sets', 'ways', 'words', 'from', 'seeds', 'length', 'searched', 'states', 'model', 'cases'];
+const SET_NAMES = [...OF_SEEDS, 'searched', 'states', 'model', 'cases'];
 
 /** The command of a name, or `run` where there is none, or none that this module answers. */
-const commandOf = name => (Object.hasOwn(SETTINGS, name) && document.querySelector(`#commands input[value=${name}]`) ? name : 'run');
+const commandOf = name => (Object.hasOwn(SETTINGS, name) && query(`#commands input[value=${name}]`) ? name : 'run');
 
 const settingOf = name => byId('set-' + name);
 
 function currentCommand() {
-  return commandOf(document.querySelector('#commands input:checked')?.value);
+  return commandOf(query('#commands input:checked')?.value);
 }
 
 /** Whether a setting's field holds a value within its limits. */
@@ -49,18 +44,18 @@ function readSettings(command) {
   if (wrong) return { wrong: `${labelText(wrong)}: this has to be a whole number from ${settingOf(wrong).min} to ${settingOf(wrong).max}.` };
   const options = { command };
   for (const name of SETTINGS[command]) options[name === 'searched' ? 'depth' : name] = valueOf(name);
+  if (command === 'outcomes' && quantifierOf(inputOf(command)) === null) options.show = 'registers'; // not locations alone
   if (command === 'witness' && options.depth === 0) return { wrong: `${labelText('depth')}: a witness needs at least 1.` };
   return { options };
 }
 
-const labelText = name => document.querySelector(`label[for=set-${name}]`).textContent;
+const labelText = name => query(`label[for=set-${name}]`).textContent;
 
 /** Shows the settings of a command, and the text that it reads after the test. */
 function showSettings(command) {
   const { options } = readSettings(command), isPlain = ['run', 'sweep'].includes(command) && options && !showsCaches([options]);
   for (const name of SET_NAMES) settingOf(name).closest('.setting').hidden = !SETTINGS[command].includes(name) || (isPlain && SETTINGS_OF_CACHES.includes(name));
   byId('caches-note').hidden = !isPlain;
-  byId('command-said').textContent = ANSWERS_OF[command];
   byId('settings').hidden = SETTINGS[command].length === 0;
   byId('choices-part').hidden = command !== 'run';
   byId('given-part').hidden = !readsOrder(command);
@@ -97,11 +92,13 @@ function takeBackLent() {
   lent.clear();
 }
 
-/** Chooses a command, with its fold open. */
+const ASKED_BY_BUTTONS = ['run', 'outcomes', 'why'];
+
+/** Chooses a command, with the fold open where no button asks the same. */
 function putCommand(name) {
-  const choice = document.querySelector(`#commands input[value=${commandOf(name)}]`);
+  const choice = query(`#commands input[value=${commandOf(name)}]`);
   choice.checked = true;
-  choice.closest('#rarer')?.setAttribute('open', '');
+  if (!ASKED_BY_BUTTONS.includes(choice.value)) byId('rarer').open = true;
   showSettings(commandOf(name));
 }
 

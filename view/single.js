@@ -41,7 +41,7 @@ async function wholePage(address, brought = taughtNow()) {
 }
 
 /** What a page that was saved has to open, where its address tells nothing. */
-const savedAddress = () => document.querySelector('meta[name=shown]')?.content ?? '';
+const savedAddress = () => query('meta[name=shown]')?.content ?? '';
 
 /** Why the page can't be saved from here; null where it can. */
 function whyNotSaved() {
@@ -53,7 +53,7 @@ function whyNotSaved() {
 async function saveWhole(name, makePage, more) {
   const why = whyNotSaved();
   if (why !== null) {
-    byId('message').textContent = why;
+    putMessage(why);
     return;
   }
   saveText(name, await makePage(), 'text/html', more);
@@ -64,7 +64,7 @@ function savePage() {
   const tests = taught.list.length;
   playlist.saved = taught.list;
   sayList();
-  for (const place of document.querySelectorAll('.listed')) putText(place, place.textContent.replace(UNSAVED, ''));
+  for (const place of queryAll('.listed')) putText(place, place.textContent.replace(UNSAVED, ''));
   return saveWhole(tests > 1 ? listFile('lecture') : fileName(pictureName(), '.html'), () => wholePage(addressNow()));
 }
 

@@ -23,14 +23,15 @@ function filterStates(sheet) {
   const [filter, alone] = sheet.querySelectorAll('.filter, .alone'), more = sheet.querySelector('.more-rows');
   const table = sheet.querySelector('table'), rows = [...table.tBodies[0].rows];
   const titles = [...table.tHead.rows[0].cells].map(cell => cell.textContent);
-  const words = filter.value.toLowerCase().replace(/[()[\]]|\/\\/g, ' ').split(/\s+/).filter(word => word !== '');
+  const words = filter.value.toLowerCase().replace(/[()[\]]|\/\\/g, ' ').replace(/\s*=\s*/g, '=').split(/\s+/).filter(Boolean);
+  const odd = words.find(word => /[!=<>]/.test(word) && !titles.some(title => word.replace(/=\d*$/, '') === title.toLowerCase()));
   const isFound = row => hasWords(row, titles, words) && !(alone?.checked === true && !row.textContent.includes('TSO alone')), found = rows.filter(isFound);
   const shown = new Set('all' in more.dataset ? found : found.slice(0, FEW_ROWS)), isCut = shown.size < found.length;
   for (const row of rows) row.hidden = !shown.has(row);
   for (const row of table.tFoot?.rows ?? []) row.hidden = !isFound(row);
   more.hidden = !isCut;
   putText(more, `Show all ${found.length}`);
-  sheet.querySelector('.filtered').textContent = `${found.length} of ${rows.length} outcomes${isCut ? `, the first ${FEW_ROWS} shown` : ''}`;
+  sheet.querySelector('.filtered').textContent = odd ? `“${odd}” isn't read: write ${filter.placeholder}` : `${found.length < rows.length ? `${found.length} of ` : ''}${rows.length} ${sheet.dataset.many}${isCut ? `, the first ${FEW_ROWS} shown` : ''}`;
 }
 
 /** Compares two cells: numbers as numbers. */
@@ -48,17 +49,15 @@ function sortBy(title) {
   if (body.rows.length > 1) filterStates(head.closest('.states-sheet'));
 }
 
-const MOST_TRIED = 24; // states whose choices are tried in one's own store buffers
-
 const LOCATIONS = /^([^]*\n[ \t]*locations\s*\[([\w:;\s]*)\]\s*(?:~\s*exists|exists|forall)\b)([^{}|"*]*)$/;
 
-/** What outcomes are asked of: the condition names the places of herd's line of locations too, behind `false`, so that it says the same. The
- * test as written, and no places, where that can't be read for certain. */
+/** What outcomes are asked of: the condition names the places of herd's line of locations too, behind `false`; the test as written, where that can't be
+ * read. */
 function withPlaces(test) {
   const [, before, list = '', asks = ''] = LOCATIONS.exec(test) ?? [], named = asks.match(/[\w:]+/g);
   const places = [...new Set(list.split(/[;\s]+/))].filter(name => name && !named.includes(name));
   const input = `${before} ((${asks}) \\/ false${places.map(name => ` /\\ ${name}=0`).join('')})\n`;
-  if (before === undefined || asked({ command: 'run' }, input).status === Tso.STATUS.refused) return { input: test, places: null };
+  if (before === undefined || asked({ command: 'run' }, input).status === REFUSED) return { input: test, places: null };
   return { input: places.length > 0 ? input : test, places };
 }
 
@@ -69,16 +68,7 @@ function placesNote() {
   const test = inputOf('outcomes'), { places } = withPlaces(test);
   if (!/^\s*locations\b/m.test(test) || places?.length === 0) return [];
   const said = places ? `By the line “locations”: asked with ${listed(places)} named in the condition too.` : 'The line “locations” adds no column: name a place in the condition to see it.';
-  return [html('p', { class: `small faint${places ? ' ways-said' : ''}` }, said)];
-}
-
-/** Says that runs of the table have other store buffers, where yours have no room. */
-function depthNote({ states, depth }) {
-  const { options } = readSettings('run');
-  if (options === undefined || options.depth === depth) return [];
-  if (depth > 0 && states.length <= MOST_TRIED && states.every(({ choices }) => hasRoom(choices, options.depth))) return [];
-  const keeps = depth > 0 ? 'where a run has no room in yours' : 'in place of yours';
-  return [html('p', { class: 'small faint' }, `“Run them” takes ${plainMachineName({ depth })} ${keeps}, of ${options.depth}. You can go back to your own run.`)];
+  return [html('p', `small faint${places ? ' ways-said' : ''}`, said)];
 }
 
 /** What the names of places and of choices mean, by one of each. */
@@ -87,14 +77,25 @@ function keySaid(names) {
   return `${name === undefined ? '' : `${name} is the register ${register} of P${core}. `}In the choices 0s lets P0 take its next step, and 0d drains its oldest store.`;
 }
 
+const linkButton = () => html('button', { class: 'quiet', 'data-copy-link': '' }, 'Copy the link');
+
+/** Hides the columns of a wide table in which all states are alike, and as is asked; answers their names. */
+function foldAlike(table, { states }) {
+  const [{ values }] = states, names = Object.keys(values), isMany = names.length > FEW_COLUMNS && states.length > 1;
+  const isAsked = name => ['any', String(values[name]), undefined].includes(table.querySelector(`tfoot [data-name="${name}"]`)?.textContent);
+  const alike = names.filter(name => isMany && states.every(state => state.values[name] === values[name]) && isAsked(name));
+  for (const cell of table.querySelectorAll('th, [data-name]')) cell.hidden = alike.includes(cell.dataset.name ?? cell.textContent);
+  return alike;
+}
+
 /** The table of states with what sorts and filters it. */
 function statesSheet(outcomes, sequential, truths) {
-  const table = outcomesTable(outcomes, sequential, truths);
-  const [first = '0:EAX'] = Object.keys(outcomes.states[0].values), buttons = table.querySelectorAll('.goes');
+  const table = outcomesTable(outcomes, sequential, truths), [{ values }] = outcomes.states, alike = foldAlike(table, outcomes), columns = Object.keys(values).filter(name => !alike.includes(name));
+  const [first = '0:EAX'] = columns, buttons = table.querySelectorAll('.goes');
   const isOther = outcomes.states.some(({ choices }, at) => choices !== buttons[at].dataset.choices);
   const ways = isOther ? [html('p', { class: 'ways-said', hidden: '' }, 'The table has choices that are easy to follow; the answer as text has those that the search met first.')] : [];
   table.querySelector('tbody').prepend(...table.querySelectorAll('.met')); // what is sought comes first
-  for (const head of [...table.querySelectorAll('thead th')].slice(0, -1)) head.replaceChildren(html('button', { type: 'button', class: 'sorts' }, head.textContent));
+  for (const head of [...table.querySelectorAll('thead th')].slice(0, -1)) fill(head, html('button', 'sorts', ...head.textContent.split(/(?<=:)/).flatMap(part => [html('wbr', {}), part])));
   const { programs: told } = readTest(inputOf('outcomes')), { names = [], lines = [] } = inC(told) ?? {}, isFew = names.flatMap(Object.keys).length <= MOST_NAMED;
   for (const head of table.querySelectorAll('thead th')) {
     const [core, register] = head.textContent.split(':'), named = isFew && names[core]?.[register];
@@ -103,33 +104,34 @@ function statesSheet(outcomes, sequential, truths) {
   for (const button of table.querySelectorAll('thead .sorts')) if (Object.hasOwn(MEANINGS, button.textContent)) button.dataset.means = button.textContent;
   const filter = html('input', { class: 'filter', type: 'search', autocomplete: 'off', placeholder: `${first}=1` });
   const alone = sequential ? [html('label', {}, html('input', { class: 'alone', type: 'checkbox' }), ' TSO alone')] : [];
-  const tools = html('div', { class: 'buttons small' }, html('label', {}, 'Filter ', filter), ...alone, html('span', { class: 'filtered', role: 'status' }));
-  const more = html('button', { type: 'button', class: 'more-rows', hidden: '' });
-  const isAlone = sequential !== null && newStates(outcomes, sequential).includes(true);
-  const words = sequential ? [html('p', { class: 'small faint alone-said' }, `${isAlone ? '“TSO alone”: it needs store buffers. ' : ''}SC is sequential consistency: no store buffers.`)] : [];
-  const key = html('p', { class: 'small faint key' }, keySaid(Object.keys(outcomes.states[0].values)));
-  const programs = html('p', { class: 'programs' }, ...programLines(asWritten(inputOf('outcomes'), told)));
+  const tools = html('div', 'buttons small', html('label', {}, 'Filter ', filter), ...alone, html('span', { class: 'filtered', role: 'status' }));
+  const more = html('button', { class: 'more-rows', hidden: '' });
+  const link = html('p', 'buttons tools small', linkButton(), html('span', { class: 'page-saved', role: 'status' }));
+  const words = sequential ? [html('p', 'small faint alone-said', 'TSO has store buffers. SC, sequential consistency, has none.')] : [];
+  const key = html('p', 'small faint key', keySaid(Object.keys(values))), same = alike.length > 0 ? [html('p', 'small', `In each: ${alike.map(name => `${name}=${values[name]}`).join(', ')}.`)] : [];
+  const programs = html('p', 'programs', ...programLines(asWritten(inputOf('outcomes'), told)));
   programs.querySelectorAll('code').forEach((code, at) => lines.length > 0 && setAll(code, { 'data-c': lines.flat()[at] }));
-  const isBroad = Object.keys(outcomes.states[0].values).length > FEW_COLUMNS || programs.childElementCount > MANY_CORES;
-  const sheet = html('div', { class: isBroad ? 'states-sheet broad' : 'states-sheet' }, programs,
-    html('div', { class: 'states-told' }, ...(outcomes.states.length > 1 ? [tools] : []), table, more), html('div', { class: 'states-notes' }, ...words, key, ...ways, ...depthNote(outcomes), ...placesNote()));
+  const isBroad = columns.length > FEW_COLUMNS || programs.childElementCount > MANY_CORES;
+  const sheet = html('div', isBroad ? 'states-sheet broad' : 'states-sheet', programs,
+    html('div', 'states-told', ...(outcomes.states.length > 1 ? [tools] : []), ...same, table, more, link), html('div', 'states-notes', ...words, key, ...ways, ...placesNote()));
   sheet.style.setProperty('--states', outcomes.states.length);
+  sheet.dataset.many = outcomes.unfinished ? 'met' : 'outcomes';
   if (outcomes.states.length > 1) filterStates(sheet);
   return [sheet];
 }
 
 /** Marks the row whose choices make the run that is shown. */
 function markShownState(choices) {
-  for (const button of byId('states').querySelectorAll('[data-choices]')) {
+  for (const button of queryAll('#states [data-choices]')) {
     const row = button.closest('tr'), isShown = button.dataset.choices === choices;
     if (!row) continue;
-    row.classList.toggle('shown', isShown);
+    putClass(row, 'shown', isShown);
     row.ariaCurrent = isShown ? 'true' : null;
   }
 }
 
-byId('states').addEventListener('input', ({ target }) => target.closest('.states-sheet') && filterStates(target.closest('.states-sheet')));
-byId('states').addEventListener('click', ({ target }) => {
+on(byId('states'), 'input', ({ target }) => target.closest('.states-sheet') && filterStates(target.closest('.states-sheet')));
+on(byId('states'), 'click', ({ target }) => {
   if (target.matches('.sorts')) sortBy(target);
   if (!target.matches('.more-rows')) return;
   target.dataset.all = '';

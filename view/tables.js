@@ -4,12 +4,12 @@
 
 function tableOf(caption, titles, rows) {
   const head = html('tr', {}, ...titles.map(title => html('th', { scope: 'col' }, title)));
-  return html('div', { class: 'scrolls' }, html('table', {}, html('caption', {}, caption), html('thead', {}, head), html('tbody', {}, ...rows)));
+  return html('div', 'scrolls', html('table', {}, html('caption', {}, caption), html('thead', {}, head), html('tbody', {}, ...rows)));
 }
 
 function numbersTable(caption, titles, rows) {
   return tableOf(caption, titles, rows.map(([name, ...numbers]) => html('tr', {},
-    html('th', { scope: 'row', class: 'wraps' }, name), ...numbers.map(number => html('td', { class: 'number' }, String(number))))));
+    html('th', { scope: 'row', class: 'wraps' }, name), ...numbers.map(number => html('td', 'number', String(number))))));
 }
 
 /** What a run left: registers that are used, memory, and counts of caches, of the machine `whose`. */
@@ -27,6 +27,6 @@ function finalTables(run, used = run.registers.map(() => REGISTERS), whose = '')
 function orderTable(run) {
   return tableOf('The order in words', ['No', 'Entry', 'In words'], run.order.map(entry => html('tr', {},
     html('th', { scope: 'row' }, String(entry.index + 1)),
-    html('td', { class: 'wraps' }, entry.text),
-    html('td', { class: 'prose' }, sentenceOf(run, entry)))));
+    html('td', 'wraps', entry.text),
+    html('td', 'prose', sentenceOf(run, entry)))));
 }

@@ -50,9 +50,8 @@ const workerPolicy = window.trustedTypes?.createPolicy('worker', {
   },
 });
 
-/** Begins to answer questions, each some options, on an input: `answers` is a promise, and `stop` ends the work, so that the
- * promise is never kept. A question with a status as its `after` is asked where the first answer has that one, and else answered by null.
- * `tell` is told how far the work came, with the answer of the limit that was met last. */
+/** Begins to answer questions (options) on an input: `answers` is a promise, never kept after `stop`. One with a status as its `after` is asked where
+ * the first answer has that, else answered by null. `tell` is told how far the work came, with the last answer. */
 function beginTask(bytes, questions, input, tell = () => {}) {
   const address = URL.createObjectURL(new Blob([WORK], { type: 'text/javascript' }));
   const worker = new Worker(workerPolicy?.createScriptURL(address) ?? address);

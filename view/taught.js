@@ -106,7 +106,7 @@ function tryTaught(text, act) {
 
 /** What a page that was saved brings along. */
 function takeSavedTaught() {
-  const saved = document.querySelector('meta[name=taught]')?.content;
+  const saved = query('meta[name=taught]')?.content;
   if (saved) tryTaught(saved, () => {});
 }
 

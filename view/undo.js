@@ -12,8 +12,8 @@ const undoing = { past: [], now: null, future: [], field: null, time: 0 };
 /** All that an act can change: the texts, the settings, the command, the place in the run, and what is beside the machine. */
 function snapshotNow() {
   return {
-    test: byId('test').value, given: byId('given').value, choices: choicesText(), command: currentCommand(), settings: JSON.stringify(changedSettings()),
-    beside: drive.beside, caches: cachesView.wanted, count: drive.count,
+    test: testNow(), given: byId('given').value, choices: choicesText(), command: currentCommand(), settings: JSON.stringify(changedSettings()),
+    beside: drive.beside, caches: cachesView.wanted, count: drive.count, isOver: drive.isOn && drive.count === drive.words.length,
   };
 }
 
@@ -109,8 +109,7 @@ function showUndoing() {
 
 // One's own run, which an answer's run takes the place of.
 
-/** One's own run (`kept`), the answer's run that was shown when something was asked (`shown`), and the choices of an answer that were taken last
- * (`taken`), each null where there is none. */
+/** One's own run (`kept`), the answer's run shown when something was asked (`shown`), and an answer's choices taken last (`taken`), or null. */
 const ownRun = { kept: null, shown: null, taken: null };
 
 /** Whether the run that is driven is an answer's, and not one's own again. */
@@ -157,11 +156,11 @@ function backToOwnRun() {
   forgetOwnRun();
   stopTask();
   restore(run);
-  byId('stepper').scrollIntoView({ block: 'nearest' });
+  bringNear(byId('stepper'));
 }
 
-for (const kind of ['click', 'input', 'change', 'keydown']) window.addEventListener(kind, remember);
-document.addEventListener('keydown', event => {
+for (const kind of ['click', 'input', 'change', 'keydown']) on(window, kind, remember);
+on(document, 'keydown', event => {
   const isUndone = event.key.toLowerCase() === 'z' && !event.shiftKey, isRedone = event.key.toLowerCase() === 'y' || (event.key.toLowerCase() === 'z' && event.shiftKey);
   if (!(event.ctrlKey || event.metaKey) || event.altKey || event.target.matches('textarea, input:not([type=checkbox], [type=radio], [type=range])')) return;
   if (!isUndone && !isRedone) return;

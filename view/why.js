@@ -43,7 +43,7 @@ function codesSaid(text) {
 /** What the letters in the boxes of a picture are, and how to read the words beside it. */
 function keyOfEdges(edges, words) {
   const isLocked = eventsOf(edges).some(({ kind }) => kind[0] === 'L');
-  return `W: a store. R: a load.${isLocked ? ' LR and LW: the two parts of a locked instruction.' : ''}${codesSaid(words + (document.querySelector('.tree')?.textContent ?? ''))}${readAsSaid(sheet.test)}`;
+  return `W: a store. R: a load.${isLocked ? ' LR and LW: the two parts of a locked instruction.' : ''}${codesSaid(words + (query('.tree')?.textContent ?? ''))}${readAsSaid(sheet.test)}`;
 }
 
 const READ_AS = { INC: 'ADD', DEC: 'SUB' };
@@ -63,28 +63,30 @@ function showReason(answer, test, beside) {
   showQuestion(test); // no picture repeats it
   const isTso = told.model === 'tso', can = told.answer !== 'never';
   if (!can && isTso) possible.refuted = test;
-  if (can && isTso && told.asked?.truth === true) possible.found = test;
+  if (isTso) noteAnswer(test, told);
   const { said = [], drawn, run = [], more = [] } = can ? allowedParts(told, programs, proposition, beside) : { drawn: refutedParts(told) };
-  const title = !can ? 'Why it can\'t be' : told.asked === null ? 'How it may end' : 'How it can be';
+  const title = isClaim(test) ? `Why ${claimWords(!can).toLowerCase()}` : !can ? 'Why it can\'t be' : told.asked === null ? 'How it may end' : 'How it can be';
   const early = told.asked === null ? {} : { 'data-early': '' }; // a lecture shows it with the last arrow
   const heading = answerTitle(title);
   setAll(heading, early);
   const section = html('section', { class: 'reason', 'aria-label': 'Why' }, heading, ...strayPart(test),
     html('p', { role: 'status' }, ...(isTso ? judgeThought(can) : []), verdictOf(plainAnswer(told, proposition, quantifierOf(test)), early)),
     ...termsPart(proposition && wantedWords(proposition)), ...enoughPart(told, test, proposition), ...said, ...drawn, ...countsOffer());
-  byId('states').replaceChildren(section);
+  fill(byId('states'), section);
   const [first, second] = told.answer === 'never' ? cyclesOf(told.steps) : [];
   if (first) drawCycle(first.at);
   if (!second) section.querySelector('[data-cycle]')?.remove(); // the one that is drawn
   showFromBehind();
-  const isDrawn = section.querySelector('figure') !== null, terms = html('p', { class: 'terms' }, html('strong', {}, 'In litmus terms: '), reasonSentence(told, proposition));
-  if (!isDrawn) section.querySelector('[role=status]').after(html('p', { class: 'small faint' }, codesSaid(section.textContent), readAsSaid(test)));
-  section.append(sheetTools(isDrawn, run), html('details', { class: 'in-tables' }, html('summary', {}, 'More about this answer'), ...more, terms, html('p', { class: 'small faint' }, codesSaid(answer.text))));
+  const isDrawn = section.querySelector('figure') !== null, terms = html('p', 'terms', html('strong', {}, 'In litmus terms: '), reasonSentence(told, proposition));
+  if (!isDrawn) section.querySelector('[role=status]').after(html('p', 'small faint', codesSaid(section.textContent), readAsSaid(test)));
+  const fold = html('details', more.length > 0 ? 'in-tables' : 'in-tables terms', html('summary', {}, 'More about this answer'), ...more, terms), codes = codesSaid(fold.textContent);
+  if (codes) fold.append(html('p', 'small faint', codes));
+  section.append(sheetTools(isDrawn, run), fold);
 }
 
 /** Makes the sheet anew where the window's width is another: pictures are laid out for one. */
 function fitReason() {
-  if (sheet.width === innerWidth || !document.querySelector('.reason')) return;
+  if (sheet.width === innerWidth || !query('.reason')) return;
   const step = sheet.cycle?.shown;
   showReason(...sheet.answered);
   sheet.cycle?.show(step);
@@ -104,12 +106,14 @@ function plainAnswer({ answer, asked }, proposition, quantifier) {
 
 /** Whether a run ends as is asked (`can`; of `forall`: otherwise), which `wanted` words tell, as the verdict on the condition. */
 function asClaimed(can, quantifier, wanted) {
-  const end = endWords(wanted);
+  const end = endWords(wanted), read = wanted && quantifier !== 'forall' && loadsSentence(wanted, readTest(inputOf('sweep')).programs);
+  if (read) return `${quantifier === 'exists' ? (can ? 'Yes' : 'No') : claimWords(!can)}: ${read} in ${can ? 'a' : 'no'} run.`;
   if (quantifier === 'exists' || quantifier === null) return can ? `Yes: a run ends ${end}.` : `No: no run ends ${end}.`;
   const ends = quantifier === 'forall' ? (can ? 'not each run' : 'each run') : can ? 'a run' : 'no run';
   return `${claimWords(!can)}: ${ends} ends ${end}.`;
 }
 
+const isClaim = test => !['exists', null].includes(quantifierOf(test));
 const claimWords = holds => `The claim ${holds ? 'holds' : 'is false'}`;
 
 /** Which of the wanted words already can't be together, as the module says: those that no cycle has are left out first. */
@@ -126,11 +130,11 @@ function enoughPart({ answer, asked: wish, model, steps }, test, proposition) {
 
 /** Where caches are in sight: that a reason speaks of values alone, and where misses are counted. */
 function countsOffer() {
-  const { options } = readSettings('run'), isCounting = document.querySelector('#commands [value=counts]') !== null;
+  const { options } = readSettings('run'), isCounting = query('#commands [value=counts]') !== null;
   if (options === undefined || !showsCaches([options])) return [];
-  const buttons = isCounting ? [html('button', { type: 'button', 'data-ask': 'counts' }, 'Count the misses')] : [];
+  const buttons = isCounting ? [html('button', { 'data-ask': 'counts' }, 'Count the misses')] : [];
   const where = isCounting ? 'The counts tell what the caches do in many runs.' : 'In a run, what stands at “Bus” counts the misses so far, for each protocol that stands beside.';
-  return [html('p', { class: 'buttons counts-offer' }, ...buttons, html('span', {}, `This sheet speaks of values alone. ${where}`))];
+  return [html('p', 'buttons', ...buttons, html('span', {}, `This sheet speaks of values alone. ${where}`))];
 }
 
 /** What can be done with the sheet: its run made, what it draws saved in the colours that are chosen, and a lecture. */
@@ -138,17 +142,18 @@ function sheetTools(isDrawn, run) {
   const colours = byId('saved-colours').parentElement.cloneNode(true), [choice] = colours.children;
   choice.removeAttribute('id');
   choice.value = byId('saved-colours').value;
-  choice.addEventListener('change', () => { byId('saved-colours').value = choice.value; });
-  const save = (kind, name) => html('button', { type: 'button', class: 'quiet', 'data-save': `reason-${kind}` }, name);
+  on(choice, 'change', () => { byId('saved-colours').value = choice.value; });
+  const save = (kind, name) => html('button', { class: 'quiet', 'data-save': `reason-${kind}` }, name);
   const saves = isDrawn ? [save('svg', 'Save the picture as SVG'), save('png', 'as PNG'), colours] : [];
-  const link = html('button', { type: 'button', class: 'quiet', 'data-copy-link': '' }, 'Copy the link');
-  return html('p', { class: 'buttons tools' }, ...run, html('span', { class: 'of-sheet' }, ...saves, link, lectureButton()), html('span', { class: 'page-saved', role: 'status' }));
+  return html('p', 'buttons tools', ...run, html('span', 'of-sheet', ...saves, linkButton(), lectureButton()), html('span', { class: 'page-saved', role: 'status' }));
 }
 
-const FEW_TOGETHER = 4; // leaves of a low tree
+const FEW_TOGETHER = 4; // leaves of a low tree; more lemmas fold together
 
 function refutedParts({ steps, leaves }) {
-  return [html('div', { class: leaves <= FEW_TOGETHER ? 'refuted few' : 'refuted' }, html('div', { class: 'tree' }, treeList(treeOf(steps), steps, leaves <= FEW_LEAVES)), html('div', { class: 'drawn' }))];
+  const nodes = treeOf(steps), isLemma = ({ step }) => step.step === 'never', count = nodes.filter(isLemma).length, listOf = some => treeList(some, steps, leaves <= FEW_LEAVES);
+  const fold = count > FEW_TOGETHER ? [html('details', 'lemmas', html('summary', {}, `${count} lemmas, in steps`), listOf(nodes.splice(nodes.findIndex(isLemma), count)))] : [];
+  return [html('div', { class: leaves <= FEW_TOGETHER ? 'refuted few' : 'refuted' }, html('div', 'tree', ...fold, listOf(nodes)), html('div', 'drawn'))];
 }
 
 /** A run of sequential consistency, on store buffers that drain at once where it is one there. */
@@ -158,7 +163,7 @@ function calmOf(told, programs) {
 }
 
 function allowedParts(answered, programs, proposition, beside) {
-  const sequential = answered.asked && beside?.status === Tso.STATUS.good ? JSON.parse(beside.text) : null, isToo = sequential?.answer === 'allowed';
+  const sequential = answered.asked && beside?.status === GOOD ? JSON.parse(beside.text) : null, isToo = sequential?.answer === 'allowed';
   const isCalm = isToo && !ownWords(answered).isShown, told = isCalm ? calmOf(sequential, programs) : answered, own = ownWords(told);
   const { model, coherence } = told, late = isCalm ? null : lateRun(programs, DEPTH_OF[model]);
   const choices = own.isShown ? own.choices : late && isExecution(late.run.order, told) ? late.choices : told.choices;
@@ -168,23 +173,23 @@ function allowedParts(answered, programs, proposition, beside) {
   const passes = passEdges(loads, executed, cycle), few = cycle.length > 0 ? cycle : askedEdges(executed, wanted);
   const edges = [...new Set([...cycle, ...passes, ...few, ...executed])];
   const isMany = few.length > 0 && edges.length > (cycle.length > 0 ? FEW_BESIDE : MANY_EDGES);
-  const run = html('button', { type: 'button', 'data-choices': choices, 'data-depth': DEPTH_OF[model] }, 'Run it');
+  const run = html('button', { 'data-choices': choices, 'data-depth': DEPTH_OF[model] }, 'Run it');
   const isOpen = edgesOfPrograms(executed, programs).some(({ relation, to }) => relation === 'unkept' && !loads.some(({ text }) => nameOfEvent(text) === nameOfEvent(to)));
   const isOther = wanted.some(place => /,\[/.test(programs[place[1]]?.[place.slice(3)])) && cycle.some(({ to }) => isLoad(to) && !isNamed(to, wanted));
   const { said: passing, more } = passesPart(loads, own.said, cycle, { isToo, isMany, isOpen }), note = isCalm ? [html('p', {}, 'The answer as text has a run of its own.')] : [];
   return {
     said: sequentialPart(sequential, isCalm && loads.length === 0),
     drawn: executionPart(programs, edges, isMany ? few : edges, cycle, passing, isOther),
-    run: [html('span', { class: 'of-run' }, run, ...choicesPart(choices))],
-    more: [...more, html('div', { class: 'beside' }, ...executionTables(told.asked === null ? { ...told, values: { ...registersAtEnd(choices, programs, model), ...told.values } } : told)), ...note],
+    run: [html('span', 'of-run', run, ...choicesPart(choices))],
+    more: [...more, html('div', 'beside', ...executionTables(told.asked === null ? { ...told, values: { ...registersAtEnd(choices, programs, model), ...told.values } } : told)), ...note],
   };
 }
 
-/** An execution that is drawn, edge by edge: first its forbidden cycle, if it has one (`isOther`: by loads not asked for). What is told `beside` stands under its legend. */
+/** An execution that is drawn, edge by edge: first its forbidden cycle (`isOther`: by loads not asked for). What is told `beside` is under its legend. */
 function executionPart(programs, edges, few, cycle, beside, isOther) {
   if (edges.length === 0) return [];
   const [first] = cycle, end = first && `So this run needs store buffers${isOther ? ', by other loads than those asked for' : ''}: without them ${eventWords(first.from)} would be before itself. TSO doesn't keep the dashed arrow${cycle.filter(({ relation }) => relation === 'unkept').length > 1 ? 's' : ''}.`;
-  const told = { end: end ?? '', name: 'The execution', closed: cycle.length, arrow: 'comes before, if there were no store buffers', beside };
+  const told = { end: end ?? '', name: 'The execution', closed: cycle.length, beside };
   const panelOf = (shown, isPicked) => new CyclePanel(programs, shown, isPicked ? { ...told, end: '', closed: 0 } : told);
   return [drawExecution(programs, edges, few, panelOf, first ? 'a cycle that needs store buffers' : 'those at what is asked for')];
 }
@@ -192,7 +197,7 @@ function executionPart(programs, edges, few, cycle, beside, isOther) {
 /** Whether one's own run is the one that is shown, its choices, and how a sentence names the shown run. */
 function ownWords(told) {
   const { test, count = 0 } = ownRun.kept ?? {}, made = count > 0 ? madeBefore() : '';
-  const run = test === byId('test').value && count > 0 ? runOf(made, told.model) : null;
+  const run = test === testNow() && count > 0 ? runOf(made, told.model) : null;
   if (run === null || run.condition?.holds !== told.asked?.truth) return { isShown: false, said: 'this run' };
   const isShown = isExecution(run.order, told);
   return { isShown, choices: made, said: isShown ? 'your run' : 'another run that ends so' };
@@ -201,7 +206,7 @@ function ownWords(told) {
 /** The run of some choices of the test; null where it doesn't end. */
 function runOf(choices, model) {
   const { status, text } = asked({ command: 'run', json: true, depth: DEPTH_OF[model] }, `${inputOf('sweep')}${DIVIDING_LINE}\n${choices}\n`);
-  return status === Tso.STATUS.good ? tellEntries(readLine(text.trim())) : null;
+  return status === GOOD ? tellEntries(readLine(text.trim())) : null;
 }
 
 /** The registers that programs write, as the run of these choices leaves them. */
@@ -211,14 +216,14 @@ const registersAtEnd = (choices, programs, model) => Object.fromEntries((runOf(c
 /** What sequential consistency tells of the same end: if it can be there too, no fence is a cure. */
 function sequentialPart(told, isCalm) {
   if (told === null) return [];
-  const said = told.answer !== 'allowed' ? ['Without store buffers (sequential consistency): it can\'t be.']
+  const said = told.answer !== 'allowed' ? [`Without store buffers (sequential consistency): ${isClaim(sheet.test) ? 'the claim holds' : 'it can\'t be'}.`]
     : [html('strong', {}, 'No fence can forbid this end: sequential consistency allows it, too.'), isCalm ? ' In the run shown here no load passes a store.' : ''];
-  return [html('p', { class: 'sequential' }, ...said)];
+  return [html('p', 'sequential', ...said)];
 }
 
 /** The choices of a run that was found, folded where they are many. */
 function choicesPart(choices) {
-  return choices.length < LONG_CHOICES ? [html('span', {}, 'by the choices ', html('code', {}, ...foldedChoices(choices)))] : foldedChoices(choices, 'by ');
+  return choices.length < LONG_CHOICES ? [html('span', {}, 'by the choices ', html('code', {}, ...foldedChoices(choices)))] : foldedChoices(choices, LONG_CHOICES, 'by ');
 }
 
 /** The loads that passed earlier stores in the run of these choices. */
@@ -249,18 +254,18 @@ function passesPart(loads, named, cycle, { isToo, isMany, isOpen }) {
   const title = isOne ? 'A load passes a store' : 'Loads pass stores', most = isMany ? Math.max(1, loads.filter(load => isOfCycle(load, cycle)).length) : MOST_PASSES;
   const rest = passes.splice(passes.length > MOST_PASSES ? Math.min(most, MOST_PASSES / 2) : most);
   const others = `In another run that ends so, other loads may pass${isToo ? ', or none' : ''}.`;
-  const enough = isOne ? 'One load that passes its store is enough. ' : '', cure = isToo ? '' : `MFENCE or a locked instruction between the store and the load would keep their order.${isOpen ? ` ${others}` : ''}`;
+  const enough = isOne ? 'It takes only one load that passes its store. ' : '', cure = isToo ? '' : `MFENCE or a locked instruction between the store and the load would keep their order.${isOpen ? ` ${others}` : ''}`;
   const list = rest.length === 0 ? [] : [html('details', {}, html('summary', {}, `And ${rest.length} ${rest.length === 1 ? 'other' : 'others'}.`), html('ul', {}, ...rest.map(each => html('li', {}, each))))];
   return {
-    said: [html(list.length > 0 ? 'div' : 'p', { class: 'passing' }, html('strong', {}, `${title} in ${named}: `), passes.join(' '), ...list, ` ${enough}${cure}`)],
+    said: [html(list.length > 0 ? 'div' : 'p', 'passing', html('strong', {}, `${title} in ${named}: `), passes.join(' '), ...list, ...explained(` ${enough}${cure}`, {}))],
     more: [html('p', {}, isToo ? others : `A load that passes a store is the one change of a program's order that TSO allows.${isOpen ? '' : ` ${others}`}`)],
   };
 }
 
 /** Marks a step of the tree, and opens the cases that it is in. */
 function markStep(at) {
-  for (const item of document.querySelectorAll('[data-step]')) item.classList.toggle('drawn-case', Number(item.dataset.step) === at);
-  for (const fold of document.querySelectorAll('.tree details:has(.drawn-case)')) fold.open = true;
+  for (const item of queryAll('[data-step]')) putClass(item, 'drawn-case', Number(item.dataset.step) === at);
+  for (const fold of queryAll('.tree details:not(.lemmas):has(.drawn-case)')) fold.open = true;
 }
 
 /** Draws the cycle of a step of the tree. */
@@ -268,8 +273,8 @@ function drawCycle(at) {
   markStep(at);
   const { step, cycle } = closingOf(sheet.told.steps[at]), order = step === 'cycle' ? ' in memory order' : '';
   const end = `So ${eventWords(cycle[0].from)} would be before itself${order}. No order allows that.`, panelOf = () => new CyclePanel(sheet.programs, cycle, { end });
-  byId('states').querySelector('.drawn').replaceChildren(drawExecution(sheet.programs, cycle, cycle, panelOf));
-  for (const button of document.querySelectorAll('[data-cycle]')) button.setAttribute('aria-pressed', String(Number(button.dataset.cycle) === at));
+  fill(query('#states .drawn'), drawExecution(sheet.programs, cycle, cycle, panelOf));
+  for (const button of queryAll('[data-cycle]')) button.setAttribute('aria-pressed', String(Number(button.dataset.cycle) === at));
 }
 
 /** Asks why, by one click from a run. */

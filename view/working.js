@@ -25,13 +25,22 @@ function showWorking() {
   putText(byId('working-told'), progressText());
 }
 
+/** Says in the place of an answer that isn't there yet what it waits for. */
+function sayInPlace(said) {
+  const place = query('#states .to-begin');
+  if (place) place.textContent = said;
+}
+
 function beginWorking() {
-  Object.assign(working, { since: Date.now(), asker: document.activeElement, progress: null });
+  Object.assign(working, { since: Date.now(), asker: focused(), progress: null });
   clearInterval(working.clock);
   working.clock = setInterval(showWorking, 500);
   byId('working').hidden = byId('stop').hidden = byId('busy').hidden = false;
   byId('stopped').hidden = true;
   byId('states').className = 'old';
+  putText(byId('begin-said'), '');
+  sayInPlace('Searching …');
+  showReport();
   showWorking();
 }
 
@@ -39,6 +48,7 @@ function endWorking() {
   clearInterval(working.clock);
   byId('working').hidden = byId('stop').hidden = byId('busy').hidden = byId('stopped').hidden = true;
   byId('states').className = '';
+  sayInPlace(`Press “${BEGINS[currentCommand()]}”.`);
 }
 
 /** Notes how far the work came. */
@@ -53,7 +63,7 @@ function placeStopped() {
   const box = byId('stopped'), isBeside = isAskedBeside();
   if (isBeside) byId('brief').parentElement.after(box);
   else byId('working').after(box);
-  box.classList.toggle('placed', isBeside);
+  putClass(box, 'placed', isBeside);
   box.hidden = false;
 }
 
@@ -62,7 +72,7 @@ function sayStopped(command) {
   const { progress } = working, { states, unfinished } = command === 'outcomes' && progress !== null ? readMet(progress.answer.text) : {}, met = states?.length ?? 0, among = unfinished?.states;
   const far = progress === null ? '' : `, at about ${grouped(estimated(progress))} of at most ${grouped(progress.most)} ${LIMIT_OF[progress.command]}`;
   byId('stopped-said').textContent = `Stopped after ${secondsWorked()} s${far}: there is no whole answer.`;
-  byId('stopped-ways').replaceChildren(...(Object.hasOwn(LIMIT_OF, command) ? [waysOn(command, { isStopped: true, met, among })] : []));
+  fill(byId('stopped-ways'), ...(Object.hasOwn(LIMIT_OF, command) ? [waysOn(command, { isStopped: true, met, among })] : []));
   placeStopped();
 }
 
@@ -80,25 +90,26 @@ function showMetBefore() {
 function stopWork() {
   if (bench.task === null) return;
   stopTask();
+  byId('report').textContent = laidOut(formats.texts[formatNow()] ?? '', formatNow());
   showSaid({ hint: '' }, '');
   sayStopped(currentCommand());
-  (byId('stopped-ways').querySelector('button') ?? byId('stopped-close')).focus({ preventScroll: true });
-  byId('stopped').scrollIntoView({ block: 'nearest' });
+  focusOn(query('#stopped-ways button') ?? byId('stopped-close'));
+  bringNear(byId('stopped'));
   if (!drive.isOn) return;
   putCommand('run');
   showAsked('run');
 }
 
-document.addEventListener('keydown', event => {
+on(document, 'keydown', event => {
   if (event.key !== 'Escape') return;
-  if (bench.task !== null) stopWork();
-  else if (isLecture() && byId('stopped').hidden && !byId('test-part').open) toggleLecture();
-  else if (event.target.matches('#test-part textarea')) byId('test-part').firstElementChild.focus();
-  else if (!isLecture() && !byId('way-back').hidden && !event.target.matches('textarea, input') && !document.querySelector('#folds [open]')) backToRun();
+  if (event.target.matches('#test-part textarea')) byId('test-part').firstElementChild.focus(); // what is asked goes on
+  else if (bench.task !== null) stopWork();
+  else if (isLecture() && byId('stopped').hidden && !byId('test-part').open) (lastLecture.isAsked ? toggleLecture : askToEnd)();
+  else if (!isLecture() && !byId('way-back').hidden && !event.target.matches('textarea, input') && !query('#folds [open]')) backToRun();
 });
-byId('stop').addEventListener('click', stopWork);
-byId('stopped').addEventListener('click', ({ target }) => 'met' in target.dataset && showMetBefore());
-byId('stopped-close').addEventListener('click', () => {
+on(byId('stop'), 'click', stopWork);
+on(byId('stopped'), 'click', ({ target }) => 'met' in target.dataset && showMetBefore());
+on(byId('stopped-close'), 'click', () => {
   byId('stopped').hidden = true;
-  working.asker?.focus({ preventScroll: true });
+  focusOn(working.asker);
 });

@@ -75,7 +75,7 @@ def signs_row(bench):
     bench.value("byId('lecture').click()")
     bench.wait("isLecture()")
     bench.value("DRIVES.last()")
-    faults += differs("in a lecture", bench.text("#verdict"), "This run doesn't end with 0 in P0's EAX and 0 in P1's EAX. It tells nothing about other runs.")
+    faults += differs("in a lecture", bench.text("#verdict"), "This run isn't one in which both loads read 0. It tells nothing about other runs.")
     return faults + safety(bench)
 
 
@@ -121,15 +121,15 @@ COVERING = """[byId('order-title'), ...document.querySelectorAll('#machines [dat
 
 
 def word_stops_row(bench):
-    """Beyond its buttons a core has one Tab stop, memory one, and the order one; down and up lead to each word there, and each tells its meaning."""
-    stops = "[...document.querySelectorAll(%r)].map(each => each.querySelectorAll('[data-means][tabindex=\"0\"]').length)"
+    """The words of the machine, the order and the legend have one Tab stop, after the cores' buttons; down and up lead to each word in a ring, and each tells its meaning."""
+    stops = "[...document.querySelectorAll('main [tabindex=\"0\"]')].filter(each => each.checkVisibility()).map(each => each.id)"
     pressed = "document.activeElement.dispatchEvent(new KeyboardEvent('keydown', { key: %r, bubbles: true })), [document.activeElement.dataset.means, byId('meaning').textContent === MEANINGS[document.activeElement.dataset.means], byId('meaning').hidden]"
     bench.open_fresh()
     bench.value("loadText('false-sharing.litmus'); goTo(6)")
-    faults = differs("stops", [bench.value(stops % name) for name in (".core", ".below")], [[1, 1], [1]])
+    faults = differs("stops", bench.value(stops), ["order-title"])
     bench.value("document.querySelector('.core h5').focus()")
-    for key, word in (("ArrowDown", "a store"), ("ArrowDown", "Registers"), ("ArrowUp", "a store"), ("ArrowUp", "Program"), ("ArrowUp", "Program")):
-        faults += differs("after " + key, bench.value(pressed % key)[:1 if word == "Program" else 3], [word, True, False][:1 if word == "Program" else 3])
+    for key, word in (("ArrowDown", "a store"), ("ArrowDown", "Registers"), ("ArrowUp", "a store"), ("ArrowUp", "Program"), ("ArrowUp", "order"), ("ArrowDown", "Program")):
+        faults += differs("after " + key, bench.value(pressed % key), [word, True, False])
     bench.value("loadText('store-buffering.litmus'); goTo(3); byId('order-title').focus()")
     told = [bench.value(pressed % "ArrowDown")[0] for _ in range(2)]
     faults += differs("in the order", told, ["/\\", "passed"])
@@ -152,7 +152,7 @@ def left_row(bench):
         faults += differs("caches after %d" % count, bench.value("goTo(%d), %s" % (count, CACHES)), [[row] for row in wanted])
     said = "[...[...document.querySelectorAll('.core')][0].querySelectorAll('.buffer li')].map(each => each.textContent).concat(document.querySelector(\"[data-choice='0s']\").ariaLabel)"
     faults += differs("with a store that waits", bench.value(said), ["x=2", "P0: at its end"])
-    faults += differs("after it left", bench.value("goTo(6), " + said), ["left: x=2", "P0: finished"])
+    faults += differs("after it left", bench.value("goTo(6), " + said), ["gone: x=2", "P0: finished"])
     bench.value("goTo(7); putBeside(JSON.stringify(ABREAST))")
     whose = bench.value("firstHistory().options.protocol.toUpperCase()")
     faults += differs("whose", bench.value("[...document.querySelectorAll('#left caption')].map(each => each.textContent)"), ["%s, %s" % (what, whose) for what in ("Registers", "Memory", "Cache accesses")])
@@ -189,9 +189,17 @@ def bare_row(bench):
     return faults + differs("of the first test", bench.value("[!!document.querySelector('.stray'), document.querySelector('.noticed').textContent]"), [False, ""]) + safety(bench)
 
 
+def still_phone_row(bench):
+    """On a phone no step of the first run moves the machine, nor does the task when it is met."""
+    bench.open_fresh(width=390)
+    tops = bench.value("['', ...'0s 1s 0s 1s 0d 1d'.split(' ')].map(word => (word && makeChoice(word), Math.round(byId('machines').getBoundingClientRect().top + scrollY)))")
+    return differs("where the machine stands", len(set(tops)), 1) + safety(bench)
+
+
 def rows(page, _):
     bench = Driver(page)
     return [
+        ("beginners, a phone's run that moves nothing", lambda: still_phone_row(bench)),
         ("beginners, runs in which no load passes", lambda: calm_row(bench)),
         ("beginners, ways on", lambda: ways_row(bench)),
         ("beginners, what is held back", lambda: held_back_row(bench)),

@@ -125,6 +125,7 @@ class Bench:
                    % (json.dumps(text), json.dumps(field)))
 
     def choose(self, command):
+        self.value("byId('rarer').open = true")
         self.window.click("#commands input[value=%s]" % command)
 
     def program(self, text, *words):

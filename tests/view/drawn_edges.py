@@ -159,8 +159,9 @@ def enough_row(bench):
         faults += differs("enough", bench.text(".reason > p:nth-of-type(2)"), "0 in P0's EAX and 0 in P1's EAX are enough for that.")
     bench.load(reasons.text_of("SB+mfences"), "")
     key = "document.body.dispatchEvent(new KeyboardEvent('keydown', { key: '%s', ctrlKey: %s, bubbles: true })), [currentCommand(), byId('enter-asks').textContent]"
-    for name, is_ctrl, told in (("w", "false", ["why", "Ctrl+Enter: Say why"]), ("o", "false", ["outcomes", "Ctrl+Enter: Find all outcomes"]), ("Enter", "true", ["outcomes", "Ctrl+Enter: Find all outcomes"])):
+    for name, is_ctrl, told in (("w", "false", ["why", "Ctrl+Enter: Why can or can't it be?"]), ("o", "false", ["outcomes", "Ctrl+Enter: Find all outcomes"]), ("Enter", "true", ["outcomes", "Ctrl+Enter: Find all outcomes"])):
         faults += differs("key " + name, bench.value(key % (name, is_ctrl)), told)
+        faults += differs("under the test", bench.value(ASKS), ["Find all outcomes", "Why can or can't it be?"])
         bench.wait("!bench.task && document.querySelector('#states .answer-title')")
         if name == "w":
             faults += differs("where all are needed", "enough" in bench.text(".reason"), False)
@@ -169,6 +170,7 @@ def enough_row(bench):
     return faults + safety(bench)
 
 
+ASKS = """[...document.querySelectorAll('#begin, #asks-here > *')].filter(each => !each.hidden).sort((one, other) => Number(getComputedStyle(one).order) - Number(getComputedStyle(other).order)).map(each => each.textContent)"""
 MOVED = "window.moved = []; Element.prototype.animate = function (frames) { moved.push([this.textContent, frames[0].transform !== frames[1].transform]); return { finished: Promise.resolve() }; }; true"
 
 
@@ -219,10 +221,10 @@ def picked_row(bench):
     faults += differs("no box draws all", "Draw all" in bench.text(".drawn-part > p"), False)
     press = "[...document.querySelectorAll('.pick')].find(each => each.textContent === '%s').click(), %s"
     at_core, at_both = "({ from, to }) => [from, to].some(each => each.startsWith('P2'))", "({ from, to }) => [from, to].some(each => each.startsWith('P2')) && / y/.test(from)"
-    core, both, left = (bench.value(press % (name, PICKED % form)) for name, form in (("P2", at_core), ("y", at_both), ("P2", "({ to }) => / y/.test(to)")))
+    core, both, left = (bench.value(press % (name, PICKED % form)) for name, form in (("P2", at_core), ("[y]", at_both), ("P2", "({ to }) => / y/.test(to)")))
     faults += differs("picked", [core[1:], both[1:], left[1:]], [[True, 1], [True, 2], [True, 1]]) + ([] if 0 < both[0] < core[0] < every else ["%s of %d arrows" % ([core, both], every)])
     faults += differs("what is said", bench.text(".drawn-part > p > span"), "Drawn are %d of %d arrows, those at what is picked. Program order that TSO keeps has none." % (left[0], every))
-    faults += differs("none again", bench.value(press % ("y", PICKED % "() => true")), [few, True, 0])
+    faults += differs("none again", bench.value(press % ("[y]", PICKED % "() => true")), [few, True, 0])
     return faults + safety(bench)
 
 
@@ -303,9 +305,9 @@ exists (0:EAX=0 /\\ 1:EAX=0 /\\ 2:EAX=0 /\\ 3:EAX=0 /\\ 5:EAX=1 /\\ 5:EBX=2)
 
 def claims_row(bench):
     """What a test claims is judged first, by why and by all outcomes; the advice on fences says where other loads may pass."""
-    said = {"SB ~exists": ["The claim is false: a run ends with 0 in P0's EAX and 0 in P1's EAX.", "The claim is false: 1 of 4 outcomes under TSO has 0 in P0's EAX and 0 in P1's EAX.", "is-no"],
-            "SB+mfences ~exists": ["The claim holds: no run ends with 0 in P0's EAX and 0 in P1's EAX.", "The claim holds: none of 3 outcomes under TSO has 0 in P0's EAX and 0 in P1's EAX.", "is-yes"],
-            "SB forall": ["The claim is false: not each run ends with 0 in P0's EAX and 0 in P1's EAX.", "The claim is false: only 1 of 4 outcomes under TSO has 0 in P0's EAX and 0 in P1's EAX.", "is-no"]}
+    said = {"SB ~exists": ["The claim is false: both loads read 0 in a run.", "The claim is false: both loads read 0 in 1 of 4 outcomes under TSO.", "is-no"],
+            "SB+mfences ~exists": ["The claim holds: both loads read 0 in no run.", "The claim holds: both loads read 0 in none of 3 outcomes under TSO.", "is-yes"],
+            "SB forall": ["The claim is false: not each run ends with 0 in P0's EAX and 0 in P1's EAX.", "The claim is false: both loads read 0 in only 1 of 4 outcomes under TSO.", "is-no"]}
     faults = []
     bench.open_fresh()
     for case, wanted in said.items():
@@ -316,7 +318,7 @@ def claims_row(bench):
             bench.value("ask('%s')" % command)
             bench.wait("!bench.task && document.querySelector('#states %s')" % {"why": ".reason", "outcomes": ".states-sheet"}[command])
             got.append(bench.text("#states > [role=status] > strong, .reason > [role=status] > strong"))
-        faults += differs(case, got + [bench.value("document.querySelector('#states [role=status] > strong').className")], wanted)
+        faults += differs(case, got + [bench.value("document.querySelector('#states [role=status] > strong').classList[0]")], wanted)
     advice = "MFENCE or a locked instruction between the store and the load would keep their order."
     for test, said in ((ring(4), "P3 read a before memory saw its store to d. " + advice), (WIDE_RING, advice + " In another run that ends so, other loads may pass.")):
         bench.fill("test", test)
@@ -327,7 +329,7 @@ def claims_row(bench):
 
 
 STATUSES = """(async () => {
-  Object.assign(possible, { test: null, refuted: null, found: null });
+  Object.assign(possible, { test: null, refuted: null });
   const task = beginTask(bench.bytes, questionsOf('outcomes', { command: 'outcomes', depth: 32, states: %d }), inputOf('outcomes'));
   return (await task.answers).map(each => each && each.status);
 })()"""
@@ -338,7 +340,7 @@ def limit_row(bench):
     of a reason have registers; and an answer as text says which of its words the picture hasn't."""
     bench.open_fresh()
     faults = []
-    for name, said in (("SB+mfences", "No: no run ends with 0 in P0's EAX and 0 in P1's EAX."), ("SB", "Yes: a run ends with 0 in P0's EAX and 0 in P1's EAX.")):
+    for name, said in (("SB+mfences", "No: both loads read 0 in no run."), ("SB", "Yes: both loads read 0 in a run.")):
         bench.fill("test", reasons.text_of(name))
         faults += differs("asked", [bench.value(STATUSES % states) for states in (5, 1000)], [[3, None, 0], [0, 0, None]])
         bench.value("settingOf('states').value = 5; findOutcomes()")

@@ -37,7 +37,7 @@ def task_row(bench):
     answers_why = bench.value("document.querySelector('#commands [value=why]') !== null")  # else nobody knows whether it can be done
     title = "Task:" if answers_why else "Can this be done?"
     bench.wait("byId('task').textContent.includes(%s)" % json.dumps(title))
-    faults = differs("the task", bench.text("#task"), "☐ %s Make both loads read 0." % title)
+    faults = differs("the task", bench.text("#task"), "%s Make both loads read 0." % title)
     for choice in "0s 0s 1s 1s".split():
         bench.window.click("[data-choice='%s']" % choice)
     faults += differs("the task", bench.text("#task"), "✓ Task: Make both loads read 0. Done. P0 read y before memory saw its store to x (P0:1 passed P0:0). "
@@ -138,13 +138,13 @@ def tree_row(bench):
 
 
 def meanings_row(bench):
-    """Each state and request explains itself at the focus and under the pointer."""
+    """Each word of the machine, of its settings and of the legend explains itself at the focus and under the pointer."""
     bench.open()
     for choice in "0s 0s 0d".split():
         bench.window.click("[data-choice='%s']" % choice)
-    bench.value("byId('test-part').open = byId('draw-part').open = true")
+    bench.value("byId('test-part').open = byId('draw-part').open = byId('legend').open = true")
     words = bench.value("[...document.querySelectorAll('[data-means]')].filter(each => each.getClientRects().length > 0).map(each => each.dataset.means)")
-    faults = [] if {"GetM", "M", "Store buffer", "Memory", "order", "protocol", "seed"} <= set(words) else ["the words are %s" % words]
+    faults = [] if {"GetM", "M", "Store buffer", "Memory", "order", "protocol", "seed", "locked instruction"} <= set(words) else ["the words are %s" % words]
     for word in sorted(set(words)):
         bench.value("(part => (part.matches('[tabindex], button') ? part : part.querySelector('input, select')).focus())([...document.querySelectorAll('[data-means]')].find(({ dataset }) => dataset.means === %s))" % json.dumps(word))
         faults += differs("the meaning of " + word, bench.value("[byId('meaning').hidden, byId('meaning').textContent === MEANINGS[%s]]" % json.dumps(word)), [False, True])
@@ -274,14 +274,16 @@ STOPS = "[...document.querySelectorAll(':is(#test-part, #about, #folds details) 
 
 
 def stops_row(bench):
-    """Tab goes as the eye does: in a wide window the test's line is the first in the bar. ? opens the list of keys."""
+    """Tab goes as the eye does: in a wide window the test's line is the first in the bar. ? opens the list of keys, and a key that acts closes it."""
     bench.open_fresh(width=1280)
     faults = differs("in the bar", bench.value(STOPS), ["test-part", "about", "lessons-part", "keys"])
     bench.window.resize(900)
     bench.wait("byId('bench').previousElementSibling.id === 'folds'")
     faults += differs("below it", bench.value(STOPS), ["about", "lessons-part", "keys", "test-part"])
     bench.value("document.body.dispatchEvent(new KeyboardEvent('keydown', { key: '?', shiftKey: true, bubbles: true })); true")
-    return faults + differs("keys", bench.value("[byId('keys').open, document.activeElement.parentElement.id]"), [True, "keys"]) + safety(bench)
+    faults += differs("keys", bench.value("[byId('keys').open, document.activeElement.parentElement.id]"), [True, "keys"])
+    press = "document.body.dispatchEvent(new KeyboardEvent('keydown', { key: '%s', bubbles: true })), byId('keys').open"
+    return faults + differs("as keys act", [bench.value(press % key) for key in ("Tab", "End")], [True, False]) + safety(bench)
 
 
 CODE_SIZES = """[...document.querySelectorAll('.program code, .registers li, .memory li, .core-buttons code')].map(each => parseFloat(getComputedStyle(each).fontSize))"""

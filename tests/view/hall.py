@@ -97,7 +97,7 @@ def letters_row(bench):
         bench.window.resize(width, height)
         bench.value("putLecture(true); loadText('false-sharing.litmus'); putBeside(JSON.stringify(ABREAST)); putLed(true)")
         style = "getComputedStyle(byId('driving'), '::after')"
-        found = bench.value("[%s.content.includes('O owned'), %s.height.split('p')[0] < byId('driving').offsetHeight, getComputedStyle(byId('ask-why')).opacity, document.documentElement.scrollHeight]" % (style, style))
+        found = bench.value("[/O owned.*≠: differs from MSI/.test(%s.content), %s.height.split('p')[0] < byId('driving').offsetHeight, getComputedStyle(byId('ask-why')).opacity, document.documentElement.scrollHeight]" % (style, style))
         faults += differs("at %d by %d" % (width, height), found, [True, True, "0", height])
         faults += differs("with the mouse", bench.value("putLed(false), [%s.content, getComputedStyle(byId('ask-why')).opacity]" % style), ["none", "1"])
     return faults + safety(bench)
@@ -117,7 +117,11 @@ def renamed_row(bench):
         faults += differs("its name after %r" % written, named, [name, name, "Move %s up" % name])
     faults += differs("the focus", bench.value("document.activeElement.textContent"), "Dekker")
     press(bench, "#list [data-renamed]")
+    bench.window.type("L" * 90)
+    faults += differs("a long name", bench.value("[document.activeElement.value.length, document.querySelector('#list [role=status]').textContent]"), [80, "80 letters at most."])
+    bench.value("document.activeElement.select()")
     bench.window.type("Lamport")
+    faults += differs("a short one", bench.text("#list [role=status]"), "")
     for kind in ("keyDown", "keyUp"):  # by a real key, which must not press what gets the focus
         bench.window.call("Input.dispatchKeyEvent", type=kind, key="Enter", code="Enter", windowsVirtualKeyCode=13, **({"text": "\r"} if kind == "keyDown" else {}))
     faults += differs("after Enter", bench.value("[byId('list-part').open, document.activeElement.textContent, taught.list[0].name]"), [True, "Lamport", "Lamport"])
@@ -140,12 +144,19 @@ def named_in_hall(bench):
 
 
 def outcomes_asked_row(bench):
-    """In a lecture the question stands over all outcomes too, the foot says what comes next, and C's names aren't there."""
+    """In a lecture the question stands over all outcomes too, which come one by one before the answer, and C's names aren't there."""
     bench.open_fresh()
     bench.value("loadText('store-buffering.litmus'); addToList(); loadText('MP.litmus'); addToList(); putLecture(true); openListed(0); findOutcomes()")
     bench.wait("!bench.task && document.querySelector('.states-sheet')")
     asked = "[byId('asked-line').checkVisibility() && byId('asked-line').textContent, footSaid() === playlist.where]"
     faults = differs("asked", bench.value(asked), ["Can both loads read 0?", True])
+    parts = "[footSaid(), ...['.states-sheet .met', '[role=status] > .is-yes'].map(each => document.querySelector('#states ' + each).checkVisibility({ visibilityProperty: true }))]"
+    turns = [bench.value(parts)]
+    for _ in range(5):
+        bench.value(CLICKED % "PageDown")
+        turns.append(bench.value(parts))
+    said = ["PageDown shows outcome %d of 4" % at for at in (1, 2, 3, 4)] + ["PageDown shows the answer", "PageDown: the run goes on"]
+    faults += differs("one by one", turns, [[each, at > 3, at > 4] for at, each in enumerate(said)])
     faults += differs("C", bench.value("getComputedStyle(document.querySelector('.states-sheet th[data-c]'), '::after').content"), "none")
     bench.value("openListed(0)")
     faults += differs("in a register", bench.value("document.querySelector('.registers').innerText.replace(/\\s/g, '')"), "EAX=0")
@@ -194,11 +205,98 @@ def fitted_row(bench):
     return faults + safety(bench)
 
 
+STOPPED = """(loadText('store-buffering.litmus'), addToList(), taught.list = [{ ...taught.list[0], address: taught.list[0].address.replace(/&choices=[^&]*/, '&choices=0s+1s+0s+1s') }],
+    loadText('MP.litmus'), addToList(), putLecture(true), openListed(%d))"""
+PRESSES = 40  # more than both tests, their reasons and what was asked have
+
+
+def led_on(bench, at, key="PageDown", is_there="playlist.at === 1"):
+    """Whether so many presses of a clicker lead there."""
+    for _ in range(PRESSES):
+        if bench.value(is_there):
+            return []
+        bench.value(CLICKED % key)
+        bench.wait("!bench.task")
+    return ["%s: no %s leads on, but round: %s" % (at, key, bench.value("[currentCommand(), drive.words, drive.count, footSaid()]"))]
+
+
+def never_trapped_row(bench):
+    """Whatever was tried in a lecture, a clicker comes back to the prepared run once, and on to the next entry: also where that run stops early."""
+    ways = {"before its end": "goTo(2); makeChoice('0d')", "two ways": "goTo(2); makeChoice('0d'); goTo(2); makeChoice('1d'); goTo(1); makeChoice('0s')", "at its end": "goTo(4); makeChoice('0d')",
+            "after its end": "goTo(4); makeChoice('0d'); makeChoice('1d'); goTo(1); makeChoice('0d')", "undone and done again": "goTo(2); makeChoice('0d'); undo(); redo()", "an earlier run": "goTo(2); makeChoice('0d'); takeBranch(otherBranches()[0]); takeBranch(otherBranches()[0])",
+            "asked in between": "goTo(2); makeChoice('0d'); findOutcomes()", "asked why": "goTo(2); makeChoice('0d'); askWhy()", "came back": "goTo(2); makeChoice('0d'); openListed(1); openListed(0)"}
+    faults = []
+    bench.open_fresh()
+    bench.value(STOPPED % 0)
+    for name, way in ways.items():
+        bench.value("openListed(0); %s" % way)
+        bench.wait("!bench.task")
+        faults += led_on(bench, name)
+        faults += led_on(bench, name, "PageUp", "playlist.at === 0 && drive.isOn && drive.count === 0")
+    bench.value("openListed(0); goTo(2); makeChoice('0d')")
+    faults += differs("the foot", bench.value("footSaid()"), "PageDown: back to the prepared run")
+    bench.value(CLICKED % "PageDown")
+    faults += differs("the run", bench.value("[drive.words.join(' '), drive.count]"), ["0s 1s 0s 1s", 2])
+    bench.value("goTo(4)")
+    faults += differs("it got there", [bench.text("#verdict"), bench.value("footSaid()")], ["✓ Both loads have read 0.", "PageDown: the reason, by arrows"])
+    bench.value("putLecture(false)")
+    return faults + safety(bench)
+
+
+def resumed_row(bench):
+    """A lecture that Escape, pressed twice, ended goes on where it was, by its button or by PageDown as the next key, which the bar says; after another key that one scrolls."""
+    bench.open_fresh()
+    bench.value(STOPPED % 0)
+    bench.value("goTo(3)")
+    bench.value(CLICKED % "Escape")
+    faults = differs("after one Escape", bench.value("[isLecture(), playlist.where]"), [True, "Escape again ends the lecture"])
+    bench.value(CLICKED % "Escape")
+    faults += differs("after Escape", bench.value("[isLecture(), whereInList(), lectureButton().textContent]"), [False, "PageDown goes on with the lecture", "Go on with the lecture"])
+    bench.value(CLICKED % "PageDown")
+    bench.wait("isLecture()")
+    faults += differs("it goes on", bench.value("[playlist.at, drive.count, footSaid()]"), [0, 3, "PageDown shows step 4 of 4"])
+    bench.value("putLecture(false)")
+    bench.value(CLICKED % "ArrowDown")
+    bench.value(CLICKED % "PageDown")
+    faults += differs("after another key", bench.value("isLecture()"), False)
+    bench.value("openListed(1); toggleLecture()")
+    faults += differs("by its button", bench.value("[playlist.at, drive.count, isLecture()]"), [0, 3, True])
+    bench.value("putLecture(false)")
+    return faults + safety(bench)
+
+
+def hidden_reason_row(bench):
+    """Four protocols that are chosen in a lecture hide no reason: a clicker comes back to the prepared view. Their end is said; the keys B and . darken the screen."""
+    bench.open_fresh()
+    bench.value("loadText('store-buffering.litmus'); addToList(); loadText('false-sharing.litmus'); addToList(); putLecture(true); openListed(0); putBeside(JSON.stringify(ABREAST)); byId('beside-it').focus(); goTo(6)")
+    faults = differs("the end", bench.value("document.querySelector('#programs strong:last-child').textContent"), "✓ Both loads have read 0.")
+    for said in ("PageDown: back to the prepared view", "PageDown: the reason, by arrows"):
+        faults += differs("next", bench.value("[footSaid(), byId('list-bar').lastElementChild.textContent]"), [said, "Next ▶"])
+        bench.value(CLICKED % "PageDown")
+    bench.wait("!bench.task && document.querySelector('.cycle')")
+    faults += differs("the reason", bench.value("[drive.beside, document.activeElement.id === 'beside-it']"), [None, False])
+    dark = "[ROOT.classList.contains('dark-hall'), footSaid()]"
+    for key in ("b", "."):
+        where = bench.value("footSaid()")
+        bench.value(CLICKED % key)
+        faults += differs("dark by " + key, bench.value(dark), [True, where])
+        bench.value(CLICKED % "PageDown")
+        faults += differs("light again", bench.value(dark), [False, where])
+    bench.value("openListed(1)")
+    faults += differs("what is shared", bench.value("byId('test-line').dataset.lines"), ": x and y in one line")
+    bench.value("taught.list[1].name = 'Own'; goTo(0)")
+    faults += differs("what is asked", bench.text("#sentence"), "The machine at its start. Each core uses its own word alone: why does each access miss?")
+    bench.value("putLecture(false)")
+    return faults + safety(bench)
+
+
 def rows(page, _):
     bench = Driver(page)
     return [
         ("a clicker that leads", lambda: led_row(bench)),
         ("a press on the ground of a lecture", lambda: unpressed_row(bench)),
+        ("a clicker that nothing traps", lambda: never_trapped_row(bench)),
+        ("a lecture that goes on", lambda: resumed_row(bench)), ("a clicker and four protocols", lambda: hidden_reason_row(bench)),
         ("a clicker all the way back", lambda: reverse_row(bench)),
         ("buffers in a lecture of 1024 by 768", lambda: narrow_row(bench)), ("letters below four protocols", lambda: letters_row(bench)),
         ("a name in a list", lambda: renamed_row(bench)),

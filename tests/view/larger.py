@@ -58,7 +58,7 @@ def forms_row(bench, folder):
     bench.value("takeText(%s)" % json.dumps(WRITTEN))
     faults += differs("as it is written", bench.value(listed), ["MOV [x],$1", "LFENCE, no effect here", "MOV EAX,[y]", "XCHG EAX,[y]", "PAUSE", "NOP"])
     bench.value("takeText(%s)" % json.dumps(WRITTEN.replace("lfence", "SFENCE (* or none *)")))
-    faults += differs("with a remark", bench.value(listed)[1], "NOP")
+    faults += differs("with a remark", bench.value(listed)[1], "SFENCE, no effect here")
     return faults + safety(bench)
 
 

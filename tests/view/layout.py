@@ -136,11 +136,10 @@ def folded_list_row(bench):
 
 
 def commands_row(bench):
-    """The rarer commands are folded until one of them is asked."""
+    """Commands and limits are folded until one is asked that no button asks: the buttons are the way to ask."""
     bench.open_fresh()
-    faults = differs("at first", bench.value("byId('rarer').open"), False)
-    shown = bench.value("byId('test-part').open = true, [...document.querySelectorAll('#commands > label')].map(each => each.textContent.trim().split(' ')[0])")
-    faults += differs("not folded", shown, ["run", "outcomes", "why"])
+    bench.value("byId('test-part').open = true, putCommand('why')")
+    faults = differs("at first", bench.value("[byId('rarer').open, byId('commands').checkVisibility(), settingOf('cases').checkVisibility()]"), [False] * 3)
     bench.value("putCommand('tables')")
     return faults + differs("once it is asked", bench.value("byId('rarer').open"), True) + safety(bench)
 
@@ -187,7 +186,7 @@ def wide_answer_row(bench):
     bench.value("byId('test-part').open = byId('library').open = true")
     bench.fill("test", EIGHT)
     faults = differs("the list", bench.value("byId('library').open"), False)
-    press(bench, "#commands [value=why]")
+    bench.choose("why")
     faults += differs("the button, below the text", bench.value("byId('begin').getBoundingClientRect().top - byId('test').getBoundingClientRect().bottom < 40"), True)
     press(bench, "#begin")
     bench.wait("!bench.task && document.querySelector('.reason')")
@@ -264,10 +263,10 @@ def hall_words_row(bench):
     for width, height in ((1920, 1080), (1280, 800)):
         bench.window.resize(width, height)
         bench.value("putDrive({ beside: null }); loadText('store-buffering.litmus'); putLecture(true)")
-        faults += differs("at the start", bench.text("#sentence"), "The machine at its start. 6 choices are known: PageDown makes them.")
+        faults += differs("at the start", bench.text("#sentence"), "The machine at its start.")
         tops = bench.value("drive.words.map((_, at) => (goTo(at + 1), Math.round(byId('verdict').getBoundingClientRect().top)))")
         faults += differs("under the picture", len(set(tops)), 1)
-        faults += differs("the verdict", bench.text("#verdict"), "Yes: this run ends with 0 in P0's EAX and 0 in P1's EAX.")
+        faults += differs("the verdict", bench.text("#verdict"), "✓ Both loads have read 0.")
         bench.value("loadText('false-sharing.litmus'); putBeside(JSON.stringify(ABREAST))")
         lines = bench.value("[0, ...drive.words].map((_, at) => (goTo(at), byId('sentence').offsetHeight / parseFloat(getComputedStyle(byId('sentence')).lineHeight)))")
         faults += [] if max(lines) < 2.3 else ["the sentence has %s lines" % lines]
@@ -332,7 +331,7 @@ def open_exercise_row(bench):
         bench.key_choice(word)
     said = bench.text("#exercise-thought")
     titles += [bench.text("#task-said"), bench.value("goTo(1), byId('task-said').textContent")]
-    return differs("its task", [each[:8] for each in titles], ["\u2610 Can th", "\u2713 Task: ", "\u2610 Task: "]) + differs("done", said, "You said: it can't be. It can. Done.") + safety(bench)
+    return differs("its task", [each[:8] for each in titles], ["Can this", "\u2713 Task: ", "Task: Ma"]) + differs("done", said, "You said: it can't be. It can. Done.") + safety(bench)
 
 
 def play_row(bench):

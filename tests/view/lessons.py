@@ -8,7 +8,7 @@ def press(bench, selector):
 
 
 def guided_row(bench):
-    """A choice that the lesson doesn't wait for is made, and one press leads back; while a question waits none is. The next step's own choice is made in
+    """A choice that the lesson doesn't wait for is made, and one press leads back; while a question waits none is. The lesson's own next choice is made in
     the place of Next; Back leads to the step before; a reload stays; leaving frees the machine."""
     bench.open_fresh()
     press(bench, "#first-lesson")
@@ -30,7 +30,14 @@ def guided_row(bench):
     faults += differs("it is said once", bench.value(first), ["", "visible"])
     told = bench.value("(box => [drive.count, box.textContent, box.matches('.wrong')])(byId('lesson-after'))")
     faults += differs("at a question", told, [2, "First answer the question.", True])
-    bench.value("enterStep(2)")
+    ahead = "[lesson.told.name, lesson.at, lesson.isStrayed, drive.words, byId('lesson-after').textContent]"
+    bench.value("enterStep(6)")
+    press(bench, "[data-choice='1s']")
+    faults += differs("the lesson's own next choice, before its question", bench.value(ahead), ["store-buffering", 7, False, ["0s", "1s", "0s"], ""])
+    bench.value("beginLesson('false-sharing')")
+    press(bench, "[data-choice='0s']")
+    faults += differs("the lesson's own next choice, in the place of Next", bench.value(ahead)[:4], ["false-sharing", 4, False, ["0s"]])
+    bench.value("beginLesson('store-buffering', 2)")
     press(bench, "[data-choice='0s']")
     press(bench, "#lesson-back")
     faults += differs("after Back", bench.value("[lesson.at, drive.count, lesson.isDone]"), [1, 0, False])
@@ -73,6 +80,9 @@ def focus_row(bench):
     faults += differs("after an arrow", bench.value("document.activeElement.dataset.answer"), "Yes")
     bench.press("2")
     faults += differs("after the key 2", bench.value("[%s, lesson.answer]" % FOCUS), ["0s", "No"])
+    bench.value("enterStep(1)")
+    bench.press("y")
+    faults += differs("after the key y", bench.value("[lesson.answer, document.querySelector('[data-answer]').getAttribute('aria-keyshortcuts')]"), ["Yes", "y 1"])
     bench.value("enterStep(12)")
     press(bench, "[data-show]")
     bench.wait("!bench.task && document.querySelector('.states-sheet')")
@@ -101,6 +111,9 @@ def focus_row(bench):
     for _ in range(3):
         press(bench, "[data-edges=next]")
     bench.wait("document.activeElement.id === 'lesson-next'")
+    bench.value("beginLesson('fences', 24)")
+    bench.wait("!bench.task && document.querySelector('.cycle')")
+    faults += differs("so do those with one fence", bench.value("focusStep(), [%s, byId('lesson-said').textContent.includes(sheet.cycle.legend.textContent.match(/^.*?\\./)[0])]" % FOCUS), ["next", True])
     return faults + safety(bench)
 
 
@@ -124,7 +137,7 @@ def views_row(bench):
     bench.wait("!bench.task && document.querySelector('.cycle')")
     faults += differs("the arrows, after the run was shown", bench.value(VIEW)[:4], [13, True, False, 1])
     bench.value("beginLesson('false-sharing', 99)")
-    for words, back in (("1", True), ("1", True), ("2", True)):
+    for words, back in (("1", True), ("1", True), ("2", True), ("2", True)):
         faults += differs("four machines", bench.value("[settingOf('words').value, lesson.isDone, drive.histories.length]"), [words, back, 4])
         press(bench, "#lesson-back")
     return faults + differs("one machine", bench.value("[lesson.isDone, drive.histories.length]"), [False, 1]) + safety(bench)
@@ -152,12 +165,19 @@ def own_test_row(bench):
 
 
 def keys_row(bench):
-    """The key e opens the test, and Escape leaves its field; arrow keys step the arrows of an answer, and Escape leads back to the run."""
+    """The key e opens the test, and Escape leaves its field, whatever works; the focus goes with the core that keys act on; arrow keys step the arrows of an answer, and Escape leads back to the run."""
     bench.open_fresh(width=1280)
     bench.value("document.body.dispatchEvent(new KeyboardEvent('keydown', { key: 'e', bubbles: true })); true")
     faults = differs("the test", bench.value("[byId('test-part').open, document.activeElement.id]"), [True, "test"])
     bench.window.press("Escape")
     faults += differs("left", bench.value("document.activeElement.parentElement.id"), "test-part")
+    leave = "(field => (field.focus(), ask('outcomes'), field.dispatchEvent(new KeyboardEvent('keydown', { key: 'Escape', bubbles: true })), [document.activeElement.parentElement.id, bench.task !== null]))(byId('test'))"
+    faults += differs("left while it works", bench.value(leave), ["test-part", True])
+    bench.wait("!bench.task")
+    bench.value("backToRun(); byId('test-part').open = false; query('[data-choice=\"1s\"]').focus()")
+    bench.key_choice("0s")
+    faults += differs("the focus, at the core that acts", bench.value("document.activeElement.dataset.choice"), "0s")
+    bench.value("byId('test-part').open = true; byId('test-part').firstElementChild.focus(); true")
     at_answer = "[document.activeElement.className, Math.round(byId('way-back').getBoundingClientRect().top) < innerHeight / 2, byId('test-part').open]"
     for act in ("o", "w", "outcomes"): # from the test that is open a key leads to the answer, and so does a button below the test
         pressed = "document.activeElement.dispatchEvent(new KeyboardEvent('keydown', { key: '%s', bubbles: true }))" if len(act) == 1 else "backToRun(); document.querySelector('#asks-here [data-ask=%s]').click()"

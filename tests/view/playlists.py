@@ -91,7 +91,7 @@ def clicker_row(bench):
     bench.value("openListed(0)")
     for choice in "0s 1s 0s 1s 0d 1d".split():
         press(bench, "[data-choice='%s']" % choice)
-    faults += differs("the next", bench.value("byId('list-bar').lastElementChild.textContent"), "Message passing: run ▶")
+    faults += differs("the next", bench.value("byId('list-bar').lastElementChild.textContent"), "Next ▶")
     faults += reason_between(bench)
     bench.value("goTo(99)")
     faults += differs("to a reason of the list, named once", bench.value("[playlist.where, byId('list-bar').lastElementChild.textContent]"), ["PageDown: why", "Next \u25b6"])
@@ -188,12 +188,13 @@ def kept_list_row(bench):
     """A list says what was added, takes no test twice, and outlives a reload; what stands beside the machine belongs to its test; and a saved page is named."""
     bench.open_fresh()
     press(bench, "#add-to-list")
-    faults = differs("added", bench.text("#listed"), "Added as 1: Store buffering: the run." + KEPT)
+    faults = differs("added", bench.text("#listed"), "Added as 1: Store buffering: the run. The page put in its run of 6 choices." + KEPT)
     press(bench, "#add-to-list")
     faults += differs("twice", [bench.text("#listed"), bench.value("taught.list.length")], ["It is there already, as 1: Store buffering: the run." + KEPT, 1])
-    faults += differs("the list in sight", [is_in_sight(bench, "#saves #list-said"), bench.text("#list-said")], [True, "Lecture: 1 Store buffering: the run"])
+    faults += differs("the list in sight", [is_in_sight(bench, "#saves #list-said"), bench.text("#list-said")], [True, "Lecture: 1 entry"])
     bench.value("byId('list-part').open = true")
-    bench.wait("byId('list-said').textContent === 'Lecture: 1 entry'")
+    bench.wait("boxOf(byId('list-part')).bottom <= innerHeight")
+    faults += differs("what follows", bench.text("#list .faint"), " then its reason, by arrows")
     faults += differs("below it", bench.value("[byId('list-kept').textContent, (playlist.saved = taught.list, sayList(), byId('list-kept').textContent)]"), ["Closing this tab loses the lecture:", "Saved. After a change save it again:"])
     bench.value("playlist.saved = null, byId('list-part').open = false")
     faults += updated(bench)
@@ -231,7 +232,7 @@ def both_ways_row(bench):
     bench.value("addToList(); openListed(0); makeChoice('0s'); addToList(); putLecture(true); openListed(3)")
     faults = []
     for where, ready in (([2, 4, None], "document.querySelector('.cycle')"), ([2, 3, None], "true"), ([2, 2, None], "true"), ([2, 1, None], "true"), ([2, 0, None], "true"),
-                         ([1, None, None], "document.querySelector('.states-sheet')"), ([0, 4, None], "document.querySelector('.cycle')"),
+                         ([1, None, None], "document.querySelector('.states-sheet')"), *[([1, None, None], "true")] * 4, ([0, 4, None], "document.querySelector('.cycle')"),
                          *(([0, arrow, None], "true") for arrow in (3, 2, 1, 0)), ([0, None, 6], "drive.isOn"), ([0, None, 5], "true")):
         bench.value(CLICKED % "PageUp")
         bench.wait("!bench.task && " + ready)
@@ -248,7 +249,7 @@ def in_run_row(bench):
     for asks, ready in (("findOutcomes()", ".states-sheet"), ("askWhy()", ".cycle")):
         bench.value(asks)
         bench.wait("!bench.task && document.querySelector('%s')" % ready)
-        bench.value("sheet.cycle?.move('all'); scrollTo(0, 100000)")
+        bench.value("sheet.cycle?.move('all'); showInTurn(); scrollTo(0, 100000)")
         bench.value(CLICKED % "PageDown")
         after.append(bench.value("[playlist.at, drive.isOn, drive.count]"))
     faults = differs("after a sheet", after, [[1, True, 2]] * 2)
@@ -336,20 +337,21 @@ def untold_row(bench):
     bench.wait("!bench.task && document.querySelector('.cycle')")
     bench.value("addToList(); putLecture(true); openListed(0)")
     bar = bench.value("[byId('list-bar').lastElementChild.textContent, byId('asked-line').textContent, byId('asked-line').checkVisibility()]")
-    faults = differs("the bar and the question", bar, ["Store buffering with fences \u25b6", "Can both loads read 0?", True])
+    faults = differs("the bar and the question", bar, ["Next \u25b6", "Can both loads read 0?", True])
     bench.value("goTo(99)")
     faults += differs("its place, and the next", bench.value("[byId('asked-line').dataset.place, playlist.where, byId('list-bar').lastElementChild.textContent]"), ["1 of 2", "PageDown: the reason, by arrows", bar[0]])
     bench.value("openListed(1)")
     bench.wait("!bench.task && document.querySelector('.cycle')")
     faults += differs("before the first arrow", bench.value("[playlist.where, getComputedStyle(document.querySelector('[data-edge]')).visibility]"), ["PageDown shows arrow 1 of 4", "hidden"])
-    faults += differs("what it is", bench.text(".edge-said").strip(), "The reason, arrow by arrow.")
+    faults += differs("what it is", bench.text(".edge-said").strip(), "Suppose both loads read 0.")
     bench.value("taught.list[1].name = 'Fenced', showQuestion(inputOf('sweep')), sheet.cycle.show(0)")
-    faults += differs("under a name", bench.text(".edge-said"), "Can both loads read 0, past the fences? The reason, arrow by arrow.")
+    faults += differs("under a name", bench.text(".edge-said"), "Can both loads read 0, past the fences? Suppose both loads read 0.")
     faults += differs("the answer", bench.value(EARLY), ["hidden", "hidden", "visible"])
     bench.value("sheet.cycle.move('all')")
     faults += differs("at the last", bench.value(EARLY), ["visible"] * 3)
     faults += differs("no Tab leads to what is off", bench.value("[...document.querySelectorAll('[data-edges]')].map(each => each.tabIndex)"), [0, 0, -1, -1])
-    bench.value("document.body.dispatchEvent(new KeyboardEvent('keydown', { key: 'Escape', bubbles: true }))")
+    for _ in range(2):
+        bench.value("document.body.dispatchEvent(new KeyboardEvent('keydown', { key: 'Escape', bubbles: true }))")
     return faults + differs("after Escape", bench.value("isLecture()"), False) + safety(bench)
 
 

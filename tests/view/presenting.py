@@ -90,7 +90,7 @@ def clicker_scrolls_row(bench):
     bench.value("putLecture(true)")
     press(bench, "#find-outcomes")
     bench.wait("!bench.task && document.querySelector('.states-sheet')")
-    bench.value("scrollTo(0, 0)")
+    bench.value("showInTurn(); scrollTo(0, 0)")
     bench.value(CLICKED % "PageDown")
     faults = differs("scrolled", bench.value("scrollY > 100"), True)
     bench.value(CLICKED % "PageUp")
@@ -140,7 +140,7 @@ def exercise_row(bench, folder):
     bench.wait("location.hash.includes('thought=cannot')")
     faults += differs("after it", bench.value(in_sight), [True, True, True, True])
     bench.value("byId('test-part').open = false; scrollTo(0, 0)")
-    faults += differs("the answer, with its button", [bench.text("#exercise-thought%s" % each) for each in ("", " > [data-ask=why]")], ["You said: it can't be. Why can or can't it be? tells whether that is so.", "Why can or can't it be?"])
+    faults += differs("the answer, with its button", [bench.text("#exercise-thought%s" % each) for each in ("", " > [data-ask=why]")], ["You said: it can't be. See whether that is so: Why can or can't it be?", "Why can or can't it be?"])
     faults += differs("the focus stays, and nothing moves", bench.value("[document.activeElement.dataset.thought, scrollY]"), ["cannot", 0])
     bench.window.requests.clear()
     return faults + judged_exercise(bench) + safety(bench)
@@ -205,7 +205,7 @@ def never_listed_row(bench):
     bench.fill("test", test_of("SB+mfences"))
     bench.value("findOutcomes()")
     bench.wait("!bench.task && document.querySelector('.states-sheet')")
-    faults = differs("never", bench.value("[...document.querySelectorAll('tfoot td')].map(each => each.textContent)"), ["0", "0", "never, in no run"])
+    faults = differs("never", bench.value("[...document.querySelectorAll('tfoot td')].map(each => each.textContent)"), ["never", "0", "0", "in no run"])
     bench.value("backToRun()")
     bench.fill("test", test_of("SB"))
     bench.value("findOutcomes()")
@@ -246,7 +246,7 @@ def abreast_row(bench, folder):
     return faults + bench.value(OVERHANGING) + safety(bench)
 
 
-ROWS = "[...document.querySelectorAll('#states tbody tr')].filter(row => !row.hidden).map(row => [...row.cells].slice(0, 2).map(cell => cell.textContent).join(' '))"
+ROWS = "[...document.querySelectorAll('#states tbody tr')].filter(row => !row.hidden).map(row => [...row.cells].slice(2, 4).map(cell => cell.textContent).join(' '))"
 
 
 def table_row(bench):
@@ -263,11 +263,11 @@ def table_row(bench):
     press(bench, "#states .alone")
     faults += differs("TSO alone", bench.value(ROWS), ["0 0"])
     press(bench, "#states .alone")
-    press(bench, "#states th:nth-child(2) .sorts")
+    press(bench, "#states th:nth-child(4) .sorts")
     once = bench.value(ROWS)
-    press(bench, "#states th:nth-child(2) .sorts")
+    press(bench, "#states th:nth-child(4) .sorts")
     faults += differs("sorted", [once, bench.value(ROWS)], [["0 0", "1 0", "0 1", "1 1"], ["0 1", "1 1", "0 0", "1 0"]])
-    return faults + differs("told", bench.value("document.querySelector('#states th:nth-child(2)').getAttribute('aria-sort')"), "descending") + safety(bench)
+    return faults + differs("told", bench.value("document.querySelector('#states th:nth-child(4)').getAttribute('aria-sort')"), "descending") + safety(bench)
 
 
 MANY_ENDS = "X86 many\n{ }\n" + "".join(" %s ;\n" % " | ".join(row) for row in (
@@ -284,7 +284,7 @@ def long_table_row(bench):
     bench.wait("!bench.task && document.querySelector('.states-sheet')")
     shown = "[document.querySelectorAll('#states tbody tr:not([hidden])').length, document.querySelectorAll('#states tfoot tr:not([hidden])').length]"
     faults = differs("at first", bench.value("[...%s, document.querySelector('.filtered').textContent]" % shown),
-                     [50, 1, "63 of 63 outcomes, the first 50 shown"])
+                     [50, 1, "63 outcomes, the first 50 shown"])
     put = "(field => { field.value = %s; field.dispatchEvent(new Event('input', { bubbles: true })); })(document.querySelector('.filter'))"
     for text in ("2:EAX=1 2:EBX=1", "(2:EAX=1 /\\ 2:EBX=1)"):
         bench.value(put % json.dumps(text))

@@ -274,7 +274,7 @@ def told_loads_row(bench):
         said = bench.text(".reason .passing")
         told, arrows = re.findall(r"P\d read \w before memory saw its store to \w", said), bench.value(drawn)
         faults += ["%s has no arrow" % each for each in told if each not in arrows] + differs("the first arrow", arrows[0] in told, True)
-        faults += differs("that one is enough", "is enough" in said, len(told) == 1) + differs("what keeps it", "MFENCE or a locked instruction" in said, True)
+        faults += differs("that one is enough", "only one load" in said, len(told) == 1) + differs("what keeps it", "MFENCE or a locked instruction" in said, True)
     read_as = bench.value("readAsSaid(' LOCK INC [Flag0] | DEC EAX ;\\n')")
     faults += differs("read as others", read_as, " LOCK INC [Flag0] is read as LOCK ADD [Flag0],$1. DEC EAX is read as SUB EAX,$1.")
     return faults + safety(bench)

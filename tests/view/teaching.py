@@ -168,8 +168,7 @@ def plain_words_row(bench):
     faults = differs("what waits", bench.value("[...document.querySelectorAll('.not-yet')].map(each => each.textContent)"), ["still in bufferx=1"])
     sizes = bench.value("['#sentence', '.registers .word', '.memory .word', '.slot'].map(each => parseFloat(getComputedStyle(document.querySelector(each)).fontSize))")
     faults += [] if min(sizes[1:]) >= sizes[0] else ["sizes of the sentence, registers, memory, buffers: %s" % sizes]
-    under = "outcomes under TSO has "
-    for name, begins in (("SB", "Yes: 1 of 4 %s0 in P0's EAX and 0 in P1's EAX." % under), ("MP", "No: none of 3 " + under)):
+    for name, begins in (("SB", "Yes: both loads read 0 in 1 of 4 outcomes under TSO."), ("MP", "No: none of 3 outcomes under TSO has ")):
         bench.fill("test", test_of(name))
         bench.value("findOutcomes()")
         bench.wait("!bench.task && document.querySelector('.states-sheet')")
@@ -181,8 +180,8 @@ def plain_words_row(bench):
     faults += differs("a hint", bench.said(hint), "hint: give more; 2 did nothing: 0s (it waits for 0d), 1d (no store)")
     bench.open_fresh()
     first = bench.value("[document.querySelector('#texts h4').textContent, ...[...document.querySelector('#texts ul').querySelectorAll('button')].map(each => each.textContent)]")
-    faults += differs("the list", first[:5], ["Start here", "store-buffering.litmus", "store-buffering-fenced.litmus", "MP.litmus", "false-sharing.litmus"])
-    faults += differs("with a lock", len(first) == 6, bench.value("bench.hasLargerSet"))
+    faults += differs("the list", first[:5], ["Start here", "store-buffering.litmus", "store-buffering-fenced.litmus", "SB+mfence+po.litmus", "MP.litmus"])
+    faults += differs("with a lock", len(first) == 7, bench.value("bench.hasLargerSet"))
     bench.fill("search", "MP")
     faults += [] if bench.text("#texts h4") != "Start here" else ["a search has what to begin with"]
     return faults + safety(bench)
@@ -225,10 +224,10 @@ def taught_row(bench, folder):
 
 
 # Tests with the words that stand before their task once the page knows whether it can be done.
-TASKS = [("SB", "exists", "☐ Task: Make both loads read 0."), ("SB+mfences", "exists", "☐ Can this be done? Make both loads read 0."),
-         ("SB", "~exists", "☐ Task: The test claims that no run ends so. Make both loads read 0."),
-         ("SB", "forall", "☐ Task: The test claims that each run ends so. End otherwise than with 0 in P0's EAX and 0 in P1's EAX."),
-         ("MP", "~exists", "☐ Can this be done? The test claims that no run ends so. End with 1 in P1's EAX and 0 in P1's EBX.")]
+TASKS = [("SB", "exists", "Task: Make both loads read 0."), ("SB+mfences", "exists", "Can this be done? Make both loads read 0."),
+         ("SB", "~exists", "Task: The test claims that no run ends so. Make both loads read 0."),
+         ("SB", "forall", "Task: The test claims that each run ends so. End otherwise than with 0 in P0's EAX and 0 in P1's EAX."),
+         ("MP", "~exists", "Can this be done? The test claims that no run ends so. End with 1 in P1's EAX and 0 in P1's EBX.")]
 
 
 def tasks_row(bench):
@@ -269,7 +268,7 @@ def done_by_answer_row(bench):
     bench.value("addToList(); askWhy()")
     bench.wait("!bench.task && document.querySelector('.reason')")
     bench.value("addToList(); openListed(0)")
-    faults += differs("before its reason in a list", bench.text("#task"), "☐ Can this be done? Make both loads read 0, past the fences.")
+    faults += differs("before its reason in a list", bench.text("#task"), "Can this be done? Make both loads read 0, past the fences.")
     bench.open_fresh()
     bench.value("findOutcomes()")
     bench.wait("!bench.task && document.querySelector('.states-sheet')")

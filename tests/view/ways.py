@@ -1,4 +1,4 @@
-"""A row for the ways of arrows in the pictures of `why`: no two of them look like one."""
+"""Rows for the ways of arrows in the pictures of `why`: no two of them look like one."""
 import drawn_edges
 import reasons
 from bench import differs, safety
@@ -69,6 +69,65 @@ def asked_row(bench):
     return faults + safety(bench)
 
 
+def folded_row(bench):
+    """In a picture of eight cores instructions that no arrow touches are one line, but for a fence that one goes by; what is drawn can be read."""
+    spare = "MOV ESI,$1", "MOV ESI,$2", "MFENCE", "MOV ESI,$3", "MOV ESI,$4", "MOV ESI,$5"
+    columns = [("P%d" % core, "MOV [a%d],$1" % core, *spare, "MOV EAX,[a%d]" % ((core + 1) % 8)) for core in range(8)]
+    rows = "".join(" %s ;\n" % " | ".join(row) for row in zip(*columns))
+    bench.open_fresh(width=1280)
+    bench.window.resize(1280, 800)
+    bench.fill("test", "X86 ring\n{ }\n%sexists (%s)\n" % (rows, " /\\ ".join("%d:EAX=0" % core for core in range(8))))
+    bench.value("askWhy()")
+    bench.wait("!bench.task && document.querySelector('.reason [data-edge]')")
+    said = "[...sheet.cycle.picture.querySelectorAll('.faint')].map(each => each.textContent).filter(each => /more|FENCE|ESI/.test(each))"
+    faults = differs("folded", bench.value(said), 8 * ["… 2 more", "3  MFENCE", "… 3 more"])
+    size = "Math.min(...[...sheet.cycle.picture.querySelectorAll('text')].map(each => Math.round(parseFloat(getComputedStyle(each).fontSize) * each.getCTM().a)))"
+    whole = "sheet.cycle.picture.scrollWidth <= sheet.cycle.picture.clientWidth"
+    return faults + differs("its type", bench.value("[%s >= 12, %s]" % (size, whole)), [True, True]) + safety(bench)
+
+
+RING = "X86 ring\n{ }\n%s ;\nexists (%s)\n"
+# Whether each letter lies within the picture and upon no box, and each instruction stands on one line.
+LABELS = """(({ width, height }, chips, boxes) => [chips.every(chip => chip.x >= 0 && chip.x + chip.width <= width && boxes.every(box => !overlap(chip, box))),
+  !document.querySelector('.reason .picture').textContent.match(/MOV(?! )/)])(document.querySelector('.reason .picture').viewBox.baseVal,
+  ...['.chip', '[data-event] rect'].map(name => [...document.querySelectorAll('.reason ' + name)].map(part => part.getBBox())))"""
+RUN = """(() => { const [bar, memory, frame] = ['#stepper', '#machines .below', '#frame'].map(name => document.querySelector(name).getBoundingClientRect());
+  return [memory.top >= bar.bottom, frame.bottom <= innerHeight]; })()"""
+
+
+def fenced(size):
+    """A ring of SB with fences but one."""
+    lines = ["P%d", "MOV [%s],$1", "MFENCE", "MOV EAX,[%s]"]
+    cells = [[lines[0] % core, lines[1] % "abcdefgh"[core], lines[2] if core else "", lines[3] % "abcdefgh"[(core + 1) % size]] for core in range(size)]
+    return RING % (" ;\n".join(" | ".join(row) for row in zip(*cells)), " /\\ ".join("%d:EAX=0" % core for core in range(size)))
+
+
+def labels_row(bench):
+    """At each width the letters of arrows stay in the frame and off boxes, and no instruction breaks where lanes have room. What it runs is in sight below the bar: memory and the last row. The picks are one stop of Tab."""
+    faults = []
+    for width, height in ((1280, 800), (1920, 1080), (390, 844)):
+        for size in (2, 4, 8) if width > 390 else (2,):
+            bench.open_fresh(width=width)
+            bench.window.resize(width, height, mobile=width < 500)
+            bench.fill("test", fenced(size))
+            bench.value("askWhy()")
+            bench.wait("!bench.task && document.querySelector('.reason [data-edge]')")
+            faults += differs("%d cores at %d" % (size, width), bench.value(LABELS), [True, (size, width) != (8, 1280)])
+            if size == 8:
+                bench.window.click(".of-run [data-choices]")
+                faults += differs("the run at %d" % width, bench.value(RUN), [True, True])
+    bench.open_fresh(width=1280)
+    bench.fill("test", drawn_edges.ring(8))
+    bench.value("askWhy()")
+    bench.wait("!bench.task && document.querySelector('.reason .pick')")
+    stops = "[...document.querySelectorAll('.pick')].flatMap(({ tabIndex }, at) => (tabIndex === 0 ? [at] : []))"
+    bench.value("document.querySelector('.pick').focus()")
+    for key, stop in (("ArrowRight", 1), ("ArrowLeft", 0), ("ArrowLeft", bench.value("document.querySelectorAll('.pick').length - 1"))):
+        bench.window.press(key)
+        faults += differs(key, bench.value("[sheet.cycle.shown, [...document.querySelectorAll('.pick')].indexOf(document.activeElement), %s]" % stops), [0, stop, [stop]])
+    return faults + safety(bench)
+
+
 def rows(page, _):
     bench = Driver(page)
-    return [("ways of arrows that share no stretch", lambda: apart_row(bench)), ("why of eight cores, what is asked for", lambda: asked_row(bench))]
+    return [("why of eight cores, what no arrow touches", lambda: folded_row(bench)), ("ways of arrows that share no stretch", lambda: apart_row(bench)), ("why of eight cores, what is asked for", lambda: asked_row(bench)), ("why, letters in the frame", lambda: labels_row(bench))]

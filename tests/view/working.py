@@ -26,7 +26,7 @@ def long_work_row(bench, folder):
     bench.window.screenshot(os.path.join(folder, "working.png"), whole=False)
     bench.value("document.body.dispatchEvent(new KeyboardEvent('keydown', { key: 'Escape', bubbles: true }))")
     faults += differs("stopped", bench.value("[bench.task, byId('working').hidden, currentCommand(), drive.count]"), [None, True, "run", 1])
-    faults += [] if "Stopped" in bench.text("#stopped") and "Ask why" in bench.text("#stopped") else ["it says " + bench.text("#stopped")]
+    faults += [] if "Stopped" in bench.text("#stopped") and any(way in bench.text("#stopped") for way in ("Ask why", "Show it")) else ["it says " + bench.text("#stopped")]
     press(bench, "#stopped-close")
     press(bench, "[data-choice='1s']")
     return faults + differs("driven on", bench.value("drive.words"), ["0s", "1s"]) + safety(bench)
@@ -98,11 +98,10 @@ def brief_row(bench):
     """An answer that is asked for beside the test says its first sentence there, and the test stays in sight; a button leads to the answer."""
     bench.open_fresh()
     bench.value("byId('test-part').open = true; putCommand('why'); scrollTo(0, 0); answerNow()")
-    faults = differs("what the command answers", bench.text("#command-said"), "Why the end that is asked for can't be, or how it can.")
     bench.value("byId('begin').focus()")
     press(bench, "#begin")
     bench.wait("!bench.task && document.querySelector('.reason')")
-    faults += differs("said", bench.text("#brief-said"), "Yes: a run ends with 0 in P0's EAX and 0 in P1's EAX.")
+    faults = differs("said", bench.text("#brief-said"), "Yes: both loads read 0 in a run.")
     faults += differs("in sight", [is_in_sight(bench, "#brief"), is_in_sight(bench, "#test")], [True, True])
     passed = r"(A load passes a store|Loads pass stores) in this run: P\d read \w before memory saw its store to \w\."
     faults += [] if re.search(passed, bench.text(".reason")) else ["it doesn't say what makes it possible: " + bench.text(".reason")]
@@ -128,7 +127,7 @@ def by_themselves_row(bench):
     bench.open_fresh()
     bench.value("byId('test-part').open = true")
     bench.choose("outcomes")
-    bench.wait("!bench.task && byId('brief-said').textContent.startsWith('Yes: 1 of 4 outcomes')")
+    bench.wait("!bench.task && byId('brief-said').textContent.startsWith('Yes: both loads read 0 in 1 of 4 outcomes')")
     faults = differs("the text and the table", bench.value("[!document.querySelector('.ways-said'), JSON.parse(formats.texts.json).states.length]"), [False, 4])
     bench.value("byId('report-part').open = true")
     bench.wait("byId('report-note').textContent.endsWith('those that the search met first.')")
@@ -199,7 +198,7 @@ def unfinished_row(bench):
     bench.value("settingOf('states').value = 3; findOutcomes()")
     bench.wait("!bench.task && document.querySelector('.ways-on')")
     said = bench.text("#states")
-    faults = ["of outcomes it doesn't say " + word for word in ("3 states", "Ask why", "Allow 30 states", "Name fewer registers") if word not in said]
+    faults = ["of outcomes it doesn't say " + word for word in ("3 states", "Show it", "Allow 30 states", "Name fewer registers") if word not in said]
     press(bench, "[data-more]")
     bench.wait("!bench.task")
     faults += differs("allowed", bench.value("[settingOf('states').value, bench.task]"), ["30", None])
@@ -207,12 +206,17 @@ def unfinished_row(bench):
     bench.value("settingOf('states').value = 5; findOutcomes()")
     bench.wait("!bench.task && document.querySelector('.ways-on')")
     met = {"unfinished": {"states": 5}, "met": [{"choices": "0s", "holds": False, "values": {"0:EAX": 0, "1:EAX": 1}}]}
-    for act in ("", "showMet({ status: Tso.STATUS.unended, text: %s, hint: '' }, 32); " % json.dumps(json.dumps(met))):
+    for act in ("", "everMet.asks = null; showMet({ status: Tso.STATUS.unended, text: %s, hint: '' }, 32); " % json.dumps(json.dumps(met))):
         faults += differs("at its limit nothing is said of never", bench.value(act + "/never/i.test(byId('states').textContent)"), False)
     faults += differs("what was met", bench.value(ROWS_MET), ["0", "1"])
     told = bench.value("possible.refuted = inputOf('why'), [waysOn('outcomes', { isStopped: true, met: 2, among: 5 }).textContent, document.querySelector('#states > [role=status] > .is-no') !== null]")
-    faults += differs("where why has answered", told[0].startswith("Show what was met 2 outcomes, among the first 5 states. Later ones weren't told yet.Show it “Why” has shown that no run ends as"), True)
+    faults += differs("where why has answered", told[0].startswith("Show what was met 2 outcomes, among the first 5 states. Later ones weren't told yet.Show it “Why” has shown that no run ends so."), True)
     faults += differs("what why says behind it", told[1], True)
+    bench.fill("test", STORES_AND_LOADS)
+    bench.value("noteAnswer(inputOf('why'), { answer: 'allowed', choices: '0s', values: { '0:EAX': 0, '1:EAX': 0 }, asked: { truth: true } })")
+    for values in ({"0:EAX": 1, "1:EAX": 0}, {"0:EAX": 0, "1:EAX": 1}):
+        bench.value("showMet({ status: Tso.STATUS.unended, text: %s, hint: '' }, 32)" % json.dumps(json.dumps({**met, "met": [{"choices": "1s", "holds": False, "values": values}]})))
+    faults += differs("the run of why first, and what earlier searches met", [bench.value(ROWS_MET), "first row, not this search" in bench.text("#states")], [["0", "0", "0", "1", "1", "0"], True])
     bench.open_fresh()
     bench.fill("test", read(EXAMPLES, "algorithms", "SEQLOCK.litmus"))
     bench.value("settingOf('cases').value = 1; askWhy()")
