@@ -43,7 +43,7 @@ WIDE = os.path.join("crates", "page_exports", "out", "page.wide.wasm")
 
 POLICY = ("default-src 'none'; script-src 'self' 'wasm-unsafe-eval'; style-src 'self'; worker-src blob:; img-src blob:; base-uri 'none'; "
           "form-action 'none'; require-trusted-types-for 'script'; trusted-types worker")
-MOST_LINES, MOST_BYTES = 400, 1_300_000
+MOST_LINES, MOST_BYTES = 400, 1_340_000
 GENERATED = ("module.js", "texts.js", "whole.js")
 CANNOT = 69
 INPUTS = 300

@@ -106,10 +106,10 @@ function showAsked(command) {
   drawShare();
   keepAddressSoon();
   showTestLine(command);
-  document.title = `${testName()} – Litmus tests under TSO`;
+  document.title = `${taught.name || testName()} – Litmus tests under TSO`;
   showWordsLine(command);
   putText(byId('begin-said'), '');
-  putText(byId('enter-asks'), Object.hasOwn(BEGINS, command) ? `Ctrl+Enter: ${BEGINS[command]}` : '');
+  putText(byId('enter-asks'), `${Object.hasOwn(BEGINS, command) ? `Ctrl+Enter: ${BEGINS[command]} · ` : ''}Esc leaves the text`);
   forgetNotices(command);
   showLeft();
   showExercise();
@@ -156,7 +156,7 @@ function reportNow() {
 
 /** Shows the answer in the form that is wanted, of a driven run anew, and no old one during a search. */
 function showReport() {
-  if (bench.task !== null) return putText(byId('report'), 'Searching …');
+  if (bench.task && !bench.task.isAside) return putText(byId('report'), 'Searching …');
   if (currentCommand() === 'run' && bench.answer === null) putFormats({ printed: reportNow().text });
   return showFormat();
 }
@@ -250,14 +250,15 @@ function showWayBack() {
   for (const button of queryAll('#way-back [data-ask]')) button.hidden = button.dataset.ask === currentCommand();
 }
 
-/** Shows the run again, as it was before the answer, with the machine in sight. */
-function backToRun() {
+/** Shows the run again, as it was before the answer, with the machine in sight: the test closes, as it is written by now. */
+function backToRun(isByKey) {
+  byId('test-part').open = false;
   if (ownRun.kept !== null) backToShownRun();
   else {
     putCommand('run');
     answerNow();
   }
-  if (focused() === document.body) focusMachine(); // what had the focus is gone
+  if (isByKey || focused() === document.body) focusMachine(); // what had the focus is gone, or out of sight
   const { top } = boxOf(byId('machines'));
   if (!isLecture() && (top < byId('stepper').offsetHeight || top > TOO_LOW * innerHeight)) byId('run').scrollIntoView({ block: 'start' });
 }
@@ -329,14 +330,10 @@ function loadText(file) {
 
 /** What a module tells of steps, tried on the first test. */
 function tracingOf(tso) {
-  const tells = command => {
-    try {
-      const { text } = tso.answer({ command, json: true }, EXAMPLES[FIRST_TEXT]);
-      return command === 'step' ? 'outcome' in readStep(text) : readTrace(text).steps.length > 0;
-    } catch {
-      return false;
-    }
-  };
+  const tells = command => tried(() => {
+    const { text } = tso.answer({ command, json: true }, EXAMPLES[FIRST_TEXT]);
+    return command === 'step' ? 'outcome' in readStep(text) : readTrace(text).steps.length > 0;
+  });
   return !tells('trace') ? null : tells('step') ? 'step' : 'trace';
 }
 
@@ -347,9 +344,9 @@ async function makeBench() {
   bench.tracing = tracingOf(tso);
   bench.tso = tso;
   bench.hasLargerSet = hasLargerSet(tso);
-  for (const [command, tells] of [['why', tellsWhy], ['counts', tellsCounts]]) {
-    if (!tells(tso)) for (const part of queryAll(`[data-for=${command}]`)) part.remove();
+  for (const command of ['why', 'counts']) {
+    if (!answersTo(tso, command)) for (const part of queryAll(`[data-for=${command}]`)) part.remove();
   }
   const { version, tools, sources } = MODULE;
-  byId('version').textContent = `The machine has version ${version}. It was made by ${tools}, from sources with the digest ${sources.slice(0, 16)}.`;
+  byId('version').textContent = `Version ${version} of the machine, proved and made by ${tools}. Digest of its sources: ${sources.slice(0, 16)}.`;
 }

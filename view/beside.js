@@ -39,7 +39,7 @@ function drawBesideChoices(options) {
 function putBeside(text) {
   putDrive({ beside: JSON.parse(text) });
   beginDrive(firstHistory(), drive, drive.count);
-  if (drive.beside === ABREAST && !isLesson()) scrollBy(0, boxOf(byId('programs')).top - (isStepperBelow() ? 0 : byId('stepper').offsetHeight));
+  if (drive.beside === ABREAST && !isLesson()) scrollBy(0, (!isLecture() && boxOf(byId('list-bar')).top) || boxOf(byId('programs')).top - (isStepperBelow() ? 0 : byId('stepper').offsetHeight));
 }
 
 /** Programs in one line; of each what `marks` says of an instruction's place is its class, and what `after` gives stands behind it. */

@@ -23,6 +23,7 @@ function putCaches() {
   const machines = drivenMachines(), isShown = showsCaches(machines), box = byId('caches');
   putClass(byId('run'), 'plain', !isShown);
   Object.assign(box, { checked: isShown, disabled: needsBus(machines) });
+  byId('beside-it').parentElement.hidden = !isShown && drive.beside === null && !isLecture();
   return isShown;
 }
 
@@ -42,10 +43,11 @@ const machineTitle = options => `${!isLesson() ? `${options.protocol.toUpperCase
 
 const wordsSaid = ({ words }) => (valueOf('words') === 1 ? '' : `, ${words} ${words === 1 ? 'word' : 'words'} a line`);
 
-/** Which words share a line, behind a test's name in a lecture. */
+/** Which words share a line, behind a test's name in a lecture; of a test about lines also that each has its own. */
 function linesSaid() {
   const [history] = drive.histories, names = history && showsCaches(drivenMachines()) ? Object.keys(history.machineAfter(0).memory) : [];
-  return names.length > 1 && names.length <= history.options.words ? `: ${listed(names)} in one line` : '';
+  const { words } = history?.options ?? {}, isApart = words === 1 && notesOf(drive.test).Words;
+  return names.length > 1 && (names.length <= words || isApart) ? `: ${listed(names)} in ${isApart ? 'a line each' : 'one line'}` : '';
 }
 
 /** A machine in words that speak of store buffers alone. */

@@ -9,15 +9,6 @@ const COUNTED = {
   to_memory: 'lines that its requests sent to memory', flushes: 'flushes', write_backs: 'write-backs',
 };
 
-/** Whether a module answers `counts`; an older one doesn't. */
-function tellsCounts(tso) {
-  try {
-    return tso.answer({ command: 'counts', json: true, seeds: 1 }, EXAMPLES[FIRST_TEXT]).text.startsWith('{');
-  } catch {
-    return false;
-  }
-}
-
 /** How many of the runs ended, in words, and under which protocol. */
 function countedSentence({ ended, unfinished }, protocol) {
   if (ended === 0) return 'No run ended, so there is nothing to count. Give each seed more choices.';

@@ -53,8 +53,8 @@ const codesOf = (programs, rows, letters) => times(rows, row => {
 });
 
 /** The room beside the boxes of a lane, and beside the outer lanes (`margin`), for the longest letters; of narrow lanes, between two of them. */
-function sidesFor(edges, isNarrow, added) {
-  const longest = ROUTES.letter * Math.max(0, ...edges.map((_, at) => lettersAt(edges, at, isNarrow).length)) + ROUTES.around + (isNarrow ? 6 : 4);
+function sidesFor(edges, isNarrow, added, cores) {
+  const longest = ROUTES.letter * Math.max(isLecture() && cores < 3 ? HALL.letters : 0, ...edges.map((_, at) => lettersAt(edges, at, isNarrow).length)) + ROUTES.around + (isNarrow ? 6 : 4);
   if (!isNarrow) return { side: Math.max(EVENTS.side, Math.ceil(1.1 * longest)), margin: 0 };
   const side = Math.max(NARROW.side, Math.ceil(longest / 2)) + added;
   return { side, margin: Math.max(0, longest - side) };
@@ -67,7 +67,7 @@ function wordsOfPrograms(programs, { margin, lane, side, tops, codes }) {
     ...program.map((_, place) => ({ x: margin + core * lane + side, y: tops[place] + 2, width, height: codes[place] - 4 }))]);
 }
 
-const HALL = { high: 0.47, narrow: 0.42, most: 120 }; // of a lecture's window, and pixels between two rows
+const HALL = { high: 0.5, narrow: 0.42, most: 120, letters: 14 }; // of a lecture's window, and pixels between two rows; letters at arrows of two cores: one scale for all
 
 /** How much further apart rows stand where a lecture has room. */
 const roomBetween = (rows, width, height, isNarrow) => (isLecture() && rows > 1 ? Math.min(HALL.most, Math.max(0, width * HALL[isNarrow ? 'narrow' : 'high'] * innerHeight / roomOfPicture() - height) / (rows - 1)) : 0);
@@ -76,7 +76,7 @@ const roomBetween = (rows, width, height, isNarrow) => (isLecture() && rows > 1 
 function layOutEvents(programs, edges, isNarrow, added = 0) {
   const events = eventsOf(edges), rows = Math.max(...programs.map(program => program.length)), far = farEdges(edges), channels = channelsOf(far, rows);
   const widest = Math.max(...programs.flat().map(text => text.length + EVENTS.place), ...events.map(({ text }) => text.length));
-  const { side, margin } = sidesFor(edges, isNarrow, added);
+  const { side, margin } = sidesFor(edges, isNarrow, added, programs.length);
   const doesFit = (least, smaller) => smaller * (programs.length * (least + 2 * side) + 2 * margin + 2) <= roomOfPicture(), isTight = !doesFit(NARROW.least, NARROW.smaller) && doesFit(NARROW.tight, smallest());
   const least = isTight ? NARROW.tight : NARROW.least, box = isNarrow ? Math.max(least, Math.min(widestCode(programs), Math.floor((roomOfPicture() / NARROW.read - 2 * margin - 2) / programs.length) - 2 * side)) : Math.max(EVENTS.least, widest * EVENTS.letter + 12);
   const lane = box + 2 * side, letters = isNarrow ? Math.max(isTight ? NARROW.few : NARROW.letters, Math.floor(box / CODE)) : Infinity, codes = codesOf(programs, rows, letters);
@@ -108,8 +108,7 @@ const drawPoint = relation => svg('marker', { id: `point-${relation}`, viewBox: 
 function drawLane(layout, program, at, core) {
   const { cores, margin, lane, tops, height } = layout, left = margin + at * lane; // the outer lanes have the margins
   return svg('g', {}, svg('rect', { class: 'lane', x: left + 1 - (at < 1 ? margin : 0), y: 1, width: lane + margin * ((at < 1) + (at === cores - 1)), height: height - 2 }), textAt({ class: 'head', x: left + lane / 2, y: 21 }, 17, `P${core}`),
-    ...program.flatMap((text, place) => linesOfCode(text, place, layout.letters).map((line, down) => fittingText(
-      { class: 'faint over', x: left + lane / 2, y: tops[place] + 14 + down * EVENTS.line }, EVENTS.type, line, lane - 2 * layout.side))));
+    ...program.flatMap((text, place) => linesOfCode(text, place, layout.letters).map((line, down) => drawCode(text, line, { x: left + lane / 2, y: tops[place] + 14 + down * EVENTS.line }, lane - 2 * layout.side))));
 }
 
 function drawEvent({ event, ...box }) {
@@ -252,7 +251,7 @@ function drawExecution(programs, edges, few, panelOf, which = '') {
   if (!isMany && isWhole) return draw();
   const left = isMany ? `Drawn are ${few.length} of ${edges.length} arrows, ${which}.` : 'Cores without an arrow are left out.';
   const place = html('div', {}, draw()), said = html('span', {}, left), picks = isMany ? pickButtons(edges) : [];
-  const words = html('p', { class: 'buttons small', ...(isMany ? { role: 'toolbar', 'aria-label': 'Arrows that are drawn' } : {}) }, said, ...picks);
+  const words = !isMany ? html('p', 'buttons small', said) : html('details', 'picks terms small', html('summary', {}, said, ' ', html('strong', {}, 'Pick others')), html('p', { class: 'buttons', role: 'toolbar', 'aria-label': 'Arrows that are drawn' }, ...picks));
   on(words, 'keydown', event => goAmong(event, picks.filter(({ value }) => value)));
   on(words, 'click', ({ target }) => {
     if (!target.value) return;
@@ -268,7 +267,7 @@ function drawExecution(programs, edges, few, panelOf, which = '') {
 function pickButtons(edges) {
   const events = eventsOf(edges), pick = (value, text) => html('button', { class: 'pick', 'aria-pressed': 'false', tabindex: value === 'P' ? 0 : -1, value }, text), word = text => html('span', {}, text);
   const each = (marks, textOf) => [...new Set(marks)].sort().map(value => pick(value, textOf(value.slice(0, -1))));
-  return [word('Pick others:'), pick('P', 'all'), word('cores'), ...each(events.map(({ core }) => `P${core}:`), text => text),
+  return [pick('P', 'all'), word('cores'), ...each(events.map(({ core }) => `P${core}:`), text => text),
     word('locations'), ...each(events.map(({ location }) => ` ${location}=`), text => `[${text.trim()}]`)];
 }
 
@@ -281,8 +280,8 @@ function pickedEdges(edges, buttons) {
 
 /** A cycle, edge by edge; or an execution: its cycle, then each other edge alone, and at last all. */
 class CyclePanel {
-  /** `end`: what the cycle comes to; `closed`: how many edges are the cycle; `beside`: what stands under the legend. */
-  constructor(programs, cycle, { end, name = `A cycle of ${cycle.length} edges`, closed = cycle.length, beside = [] }) {
+  /** `end`: what the cycle comes to; `closed`: how many edges are the cycle; `beside`: what stands under the legend, `offer` under the list. */
+  constructor(programs, cycle, { end, name = `A cycle of ${cycle.length} edges`, closed = cycle.length, beside = [], offer = [] }) {
     const picture = drawEdges(programs, cycle, name), isNarrow = picture.matches('.narrow');
     Object.assign(this, { cycle, closed, picture, isNarrow });
     this.place = html('div', 'pictured-cycle', picture);
@@ -295,7 +294,7 @@ class CyclePanel {
     this.buttons = Object.entries({ first: 'First arrow', back: 'Arrow back', next: 'Next arrow', all: 'All arrows' })
       .map(([name, text]) => html('button', { 'data-edges': name }, text));
     this.bar = html('div', 'stepping', html('div', 'buttons', ...this.buttons, this.count), this.said);
-    this.told = html('div', cycle.length > FEW_BESIDE ? 'told-edges many' : 'told-edges', html('div', {}, this.sentences, this.end), this.legend);
+    this.told = html('div', cycle.length > FEW_BESIDE ? 'told-edges many' : 'told-edges', html('div', {}, this.sentences, this.end, ...offer), this.legend);
     this.element = html('div', { class: isNarrow ? 'cycle slim' : `cycle ${picture.className}` }, ...(cycle.length > 1 ? [this.bar] : []), this.place, this.told);
     this.place.style = picture.style.cssText;
     for (const part of [picture, this.sentences]) new ResizeObserver(() => this.seeHeight()).observe(part);

@@ -104,9 +104,7 @@ function refuseStall({ histories: [history], count }, word) {
   putDrive({ core: coreOfChoice(word) });
   markKeyed(false);
   for (const panel of drawn.panels) panel.offerStall(word);
-  const said = `${why} So ${word} does nothing.`;
-  if (!isLesson()) sayOfDriving(`${said} “stall” only records it in the run: nothing changes.`);
-  else sayInLesson(said);
+  (isLesson() ? sayInLesson : sayOfDriving)(`${why} So nothing happens.`);
 }
 
 /** Where no step came of a choice: leaves it out, with all that would come after it, and keeps what is said of it. */
@@ -234,10 +232,11 @@ function setSpeed(speed) {
 
 // Keys: a choice is typed as it is written, `0s` or `0d`; the core that was named last is kept.
 
-/** Makes a choice of the core that was named. The focus goes along, where it was at another choice. */
+/** Makes a choice of the core that was named. The focus goes along, where it was at another choice; below an open test the machine comes into sight. */
 function chooseByKey(way) {
   const word = drive.core + way;
   makeChoice(word);
+  if (byId('test-part').open) seeRun();
   if (!isLesson() && document.activeElement.dataset.choice) focusOn(query(`[data-choice="${word}"]`));
 }
 

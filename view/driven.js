@@ -11,7 +11,9 @@ function showDrive() {
   showPicture();
   const step = history.steps[count - 1];
   const said = step ? saidOfStep(step) : count === 0 ? startSentence(history) : 'The first machine\'s test has ended.';
-  putExplained(byId('sentence'), lesson.told ? '' : said + (isPlain ? '' : sharedLine(history, count)));
+  const shared = isPlain || lesson.told ? '' : sharedLine(history, count);
+  putExplained(byId('sentence'), lesson.told ? '' : isLecture() ? said : said + shared);
+  if (isLecture() && shared) byId('sentence').prepend(html('strong', {}, shared), ' ');
   byId('count').textContent = `${choicesSaid(count)} made`;
   showMoves();
   showBranches();
@@ -25,13 +27,18 @@ function showDrive() {
   keepInSight();
 }
 
-/** A step's sentences, after its code but in a lecture. Of machines abreast that differ: what all did, but for what columns show, and what each did. */
+/** What a hall sees in columns, and what it hears in its place. */
+const SHORTER = [[/(buffer|stored \S+): (each .* one|memory has seen it)\./, '$1.'], [/ A(n? \w+): [^.]*/g, ' a$1'], [/; memory keeps the old words?/g, ''], [/ of [\w, ]+ became/g, ' became'],
+  [/ went on the bus\. (?=P)/g, ': '], [/(P\d+) sent its copy\. \1's copy/g, '$1 sent its copy, which']];
+
+/** A step's sentences, after its code but in a lecture. Of machines abreast that differ: what all did, but for what columns show, and what each did; in a lecture in short, and each other than the first. */
 function saidOfStep({ choice }) {
   const { panels } = drawn, first = panels[0].sentences, code = isLecture() ? '' : `${choice}: `, isOfAll = each => panels.every(({ sentences }) => sentences.includes(each));
   const own = ({ sentences }) => sentences.filter(each => !isOfAll(each)).join(' '), ways = [...new Set(panels.map(own))];
-  if (panels.length < 3 || ways.length === 1) return code + first.join(' ');
-  const under = ways.filter(Boolean).map(said => `Under ${listed(panels.filter(panel => own(panel) === said).map(({ history }) => history.options.protocol.toUpperCase()))}: ${said}`);
-  return code + [...first.filter(each => isOfAll(each) && !/^A miss|on the bus\.$/.test(each)), ...under].join(' ');
+  if (panels.length < 3 || (ways.length === 1 && code)) return code + first.join(' ');
+  const under = (code ? ways : ways.slice(1)).filter(Boolean).map(said => `Under ${listed(panels.filter(panel => own(panel) === said).map(({ history }) => history.options.protocol.toUpperCase()))}: ${said}`);
+  const all = first.filter((each, at) => (code ? isOfAll(each) && !/^A miss|on the bus\.$/.test(each) : at === 0 || (isOfAll(each) && !/^A/.test(each))));
+  return code + (code ? [] : SHORTER).reduce((said, [long, short]) => said.replace(long, short), [...all, ...under].join(' '));
 }
 
 /** Scrolls to what the last choice changed. It has the browser lay the page out, so it comes last. */
@@ -109,9 +116,9 @@ function makePicture() {
 function showPicture() {
   if (drawn.picture === null || drawn.picture.isTooNarrowFor(firstHistory())) makePicture();
   drawn.picture.show(firstHistory(), drive.count);
-  const isOver = firstHistory().hasEnded(drive.count), isEmpty = drawn.picture.rows.length === 0;
+  const isOver = firstHistory().hasEnded(drive.count), isEmpty = drawn.picture.rows.length === 0, waiting = firstHistory().machineAfter(drive.count).cores.flatMap(({ buffer }) => buffer).length || '';
   putClass(byId('frame').parentElement, 'ended', isOver);
-  putText(byId('order-title'), isOver ? 'Memory order' : isEmpty ? 'Memory order: no rows yet' : 'Memory order so far');
+  putText(byId('order-title'), isOver ? 'Memory order' : isEmpty ? `Memory order: nothing yet${waiting && `, ${waiting} waiting`}` : 'Memory order so far');
   const { layout: { top }, extent, bottom } = drawn.picture, most = frameMost() * innerHeight;
   const height = isLecture() ? Math.max(firstHistory().cores > 2 ? 0 : most - 10, top(mostRows(firstHistory().programs)) + STRIP - HEAD) : bottom - HEAD;
   extent.style.minHeight = isLecture() ? `${Math.floor(Math.min(height, most))}px` : '';
@@ -146,7 +153,7 @@ function runAtEnd(history) {
 function showEnd(history) {
   const line = runAtEnd(history), run = line && readLine(line);
   Object.assign(shown, { run, line: line ?? '' });
-  const verdict = run ? (isLecture() && endSentence(history, run)) || verdictSentence(run, history.proposition) : conditionSentence(history);
+  const verdict = isLecture() && cacheTask(drive.test) ? '' : run ? (isLecture() && endSentence(history, run)) || verdictSentence(run, history.proposition) : conditionSentence(history);
   putExplained(byId('verdict'), verdict);
   if (run && !isLecture()) tellInWords(byId('verdict'), history, run);
   putClass(byId('verdict'), 'yes', isLecture() && verdict.startsWith('Yes: '));

@@ -67,7 +67,7 @@ function seeChoices(isInSight) {
 
 // A field's column of numbers, and the band under its marked line.
 
-const ROWS = { least: 12, most: 18 }; // of the field of a test, which grows with it
+const ROWS = { least: 7, most: 16 }; // of the field of a test, which grows with it
 
 /** Gives a test without room beside the settings the whole width, and folds the list. */
 function showWidth() {
@@ -193,7 +193,7 @@ function focusRefusal() {
 }
 
 /** Hints that name what is certain to be meant, with what is changed, and to what. */
-const CELL = /^'?(.+?)'?(?=:| is).*(?:: write|one step:|word write) ((?:LOCK )?[A-Z]+(?: [^\s;]+)?)(; leave out the ;.*)?\s*$/, SIGNS = { '&': '/\\', a: '/\\', '|': '\\/', o: '\\/', '=': '=' };
+const CELL = /^'?(.+?)'?(?=: | is).*(?:: write|one step:|word write) ((?:LOCK )?[A-Z]+(?: [^\s;]+)?)(; leave out the ;.*)?\s*$/, SIGNS = { '&': '/\\', a: '/\\', '|': '\\/', o: '\\/', '=': '=' };
 const STEPS = /(?:three cells: (MOV \S+) {2}(.+?) {2}(MOV \S+), with a free|: write (MOV \S+), and in the next cell (MOV \S+|MFENCE),)/;
 const REPAIRS = [
   [/^(\w+) (?:is no register|has 64 bits).*write (\w+)\s*$/, ([, word, other]) => [new RegExp(`\\b${word}\\b`, 'gi'), other]],
@@ -239,9 +239,9 @@ function renamed(given, at, name, written) {
 /** A hint, or one of the line that it means, where that is a row which lacks its ; alone; or that of a listing. */
 function rowHint(test, hint) {
   if (/line \d+: (no line begins|this is (?!an as|a dis))/.test(hint) && isListing(test)) return 'hint: line 1: instructions alone';
-  const [said, number] = /^hint: line (\d+): (?:no ; (?:or \||ends the row of cores)|a condition begins with|\w+ begins a row as in C)/.exec(hint) ?? [], lines = test.split('\n');
+  const [said, number] = /^hint: line (\d+): (?:no ; (?:or \||ends the row of cores)|a condition begins with|'\|' begins this row|\w+ begins a row as in C)/.exec(hint) ?? [], lines = test.split('\n');
   const head = lines.findIndex(line => /^\s*P0\b/.test(line)), at = said?.includes('cores') ? head : number - 1, line = lines[at] ?? '';
-  const isRow = head >= 0 && at >= head && cellsOf(line).length === cellsOf(lines[head]).length && /^\s*[a-z][\w\s|$[\],=]*$/i.test(line);
+  const isRow = head >= 0 && at >= head && cellsOf(line).length === cellsOf(lines[head]).length && /^[\s|]*[a-z][\w\s|$[\],=]*$/i.test(line);
   return isRow ? `hint: line ${at + 1}: no ; ends this row ` : hint;
 }
 
@@ -287,7 +287,7 @@ function changesSaid(found, isListing) {
   const kinds = new Map();
   for (const { said, line, cores = [] } of found.toSorted((one, other) => Boolean(other.isOther) - Boolean(one.isOther))) kinds.set(said, [...(kinds.get(said) ?? (line ? [line] : [])), ...(isListing ? cores : line ? [line] : [])]);
   const all = [...kinds], more = all.splice(MOST_SAID).length;
-  return `${all.sort(([, [one = 0]], [, [other = 0]]) => one - other).map(([said, [, ...places]]) => (places.length === 0 ? said : `${isListing ? '' : places.length > 1 ? 'lines ' : 'line '}${listed([...new Set(places)])}: ${said}`)).join('; ')}${more > 0 ? `; and ${more} more` : ''}. `;
+  return `${all.sort(([, [one = 0]], [, [other = 0]]) => one - other).map(([said, [, ...places]]) => (places.length === 0 ? said : `${isNaN(places[0]) ? '' : places.length > 1 ? 'lines ' : 'line '}${listed([...new Set(places)])}: ${said}`)).join('; ')}${more > 0 ? `; and ${more} more` : ''}. `;
 }
 
 /** A test's programs as cells, and the lines around them; null where a row isn't plain. */
@@ -342,7 +342,7 @@ function writeRepairs() {
   field.focus();
   field.select();
   document.execCommand('insertText', false, (isOne ? text : aligned(isTest ? inOneForm(text) : text)) + askedFor); // the field can undo it
-  const said = `Written: ${isLoose && !isOne ? 'columns lined up; ' : ''}${changesSaid(changes, isListing)}Ctrl+Z takes it back. ${askedFor && 'Write into exists what you ask for. '}`, isRefused = bench.answer?.status === REFUSED;
+  const said = `Written: ${isLoose && !isOne ? 'columns lined up; ' : ''}${changesSaid(changes, isListing)}Ctrl+Z takes it back. ${askedFor && `The last line asks: ${conditionAsked(inputOf('sweep')).replace(/^C/, 'c')} Change it if you ask something else. `}`, isRefused = bench.answer?.status === REFUSED;
   if (isRefused) focusRefusal();
   else notice.said = said + noticeOf(inputOf('sweep')); // while the test is the same
   putText(query('.noticed'), isRefused ? said : notice.said);
@@ -356,8 +356,8 @@ const withCode = said => said === '' ? [] : said.split(/(\B'[^']+'(?=:| )|(?:\bL
 function markRefusal({ text, hint: given }) {
   const test = testNow(), told = given ?? '', hint = rowHint(test, told), line = hint === told ? text : text.replace(/line \d+/, /line \d+/.exec(hint));
   const listing = LISTING.test(hint) && plainListing(test, hint), made = allRepaired(test, hint), isMade = made.status !== REFUSED;
-  const place = (/no line begins a test|this is C\b/.test(hint) && strangeIn(test)) || (listing && ((!isMade && unreadIn(listing, made)) || barredIn(listing))) || placeOfRefusal(line, hint), written = test.split('\n')[place?.line - 1] ?? '';
-  const said = inFull(hint, written), head = spanOf(test.split('\n'))[0], cell = place?.field === 'test' && head >= 0 && place.line > head ? cellAtFault(written, said, () => cellsRefused(test, place.line, told)) : null;
+  const place = (FRAMELESS.test(hint) && strangeIn(test)) || (listing && ((!isMade && unreadIn(listing, made)) || barredIn(listing))) || placeOfRefusal(line, hint), written = test.split('\n')[place?.line - 1] ?? '';
+  const said = withFree(inFull(hint, written), made.changes[0]), head = spanOf(test.split('\n'))[0], cell = place?.field === 'test' && head >= 0 && place.line > head ? cellAtFault(written, said, () => cellsRefused(test, place.line, told)) : null;
   const before = place?.field === 'test' ? query('.writing .noticed') : byId('given-part');
   if (before.nextElementSibling !== byId('told')) before.after(byId('told')); // next by Tab
   const isOffered = place?.field === 'test' && (!place.said || listing) && made.changes.length > 0 && (isMade || !listing);
@@ -369,8 +369,18 @@ function markRefusal({ text, hint: given }) {
   markCell(cell);
   for (const id of ['test', 'choices', 'given']) byId(id).ariaInvalid = place?.field === id;
   byId('remove-choices').hidden = !place?.word;
+  showAskable(place?.field !== 'test');
   byId('write-so').hidden = !isOffered;
   offerRepairs(test, made, !isOffered ? '' : place.said ? 'Leave these lines out' : listing && 'Write it as a test');
+}
+
+/** Of a test with an error nothing can be asked, as each button says. */
+function showAskable(canBe) {
+  for (const button of queryAll('#asks-here button, #driving > .main, #begin')) {
+    button.disabled = !canBe;
+    button.title = canBe ? '' : 'First mend the error in the test';
+  }
+  byId('way-back').hidden ||= !canBe;
 }
 
 /** Removes choices that are refused, which shows the machine again. */

@@ -63,15 +63,17 @@ function judgeThought(can) {
   if (quantifierOf(exercise.test) === 'forall') return [];
   const isRight = can === (exercise.thought === 'can');
   exercise.judged = isRight ? `You said ${thoughtSaid()}, and so it is.` : `You said: ${thoughtSaid()}. ${can ? 'It can' : 'It can\'t'}.`;
-  return [html('strong', isRight ? 'judged' : 'judged wrong', exercise.judged), ' '];
+  return [html('strong', isRight ? 'judged' : 'judged wrong', exercise.judged), html('br', {})];
 }
 
 const nameIn = test => /^X86\s+(.*\S)/m.exec(test)?.[1];
 
 /** What a test asks, to begin with: by its line `Asks=`, or by its condition. */
-function questionOf(test) {
-  const { proposition, programs } = readTest(test), { Asks } = notesOf(test);
-  if (Asks || proposition === null) return Asks ?? '';
+const questionOf = test => notesOf(test).Asks || conditionAsked(test);
+
+/** What a test's condition asks; empty where it has none. */
+function conditionAsked(test, { proposition, programs } = readTest(test)) {
+  if (proposition === null) return '';
   const wanted = wantedWords(proposition), own = TASKS[`${nameIn(test)} ${proposition}`]?.match(/^Make (.*)\.$/)?.[1] || (wanted && loadsSentence(wanted, programs));
   if (own && quantifierOf(test) === 'exists') return `Can ${own}?`;
   const end = wanted === null ? proposition : wantedSentence(wanted);
@@ -87,10 +89,10 @@ function supposed(test, canBe) {
 }
 
 /** The task over a test, as a question: where it is to explain what is counted, and that is in sight, why it is so. */
-function proposedQuestion(test) {
-  const own = TASKS[`${nameIn(test)} ${readTest(test).proposition}`];
-  return own?.includes('miss') && showsCaches(drivenMachines()) ? own.replace(/^[^.]*\. /, '') : questionOf(test);
-}
+const proposedQuestion = test => cacheTask(test)?.replace(/^[^.]*\. /, '') ?? questionOf(test);
+
+/** The task over a test that is about caches, where they are in sight; else undefined. */
+const cacheTask = test => [TASKS[`${nameIn(test)} ${readTest(test).proposition}`]].find(own => isOfCaches(own) && showsCaches(drivenMachines()));
 
 function beginExercise() {
   const form = byId('exercise-form');

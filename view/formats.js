@@ -17,9 +17,10 @@ function putFormats(known) {
   byId('formats').hidden = !IN_BOTH.includes(currentCommand());
   const isHerds = /^\{"depth":\d+,"observation":\{/.test(known.json);
   byId('as-herd').parentElement.hidden = !isHerds;
+  byId('to-report').hidden = byId('report-part').hidden || byId('formats').hidden;
+  putText(byId('to-report'), `As text, JSON${isHerds ? ', herd7' : ''}`);
   if (byId('formats').hidden || (!isHerds && byId('as-herd').checked)) byId('as-printed').checked = true;
   byId('report-copied').textContent = '';
-  putReportKey('');
   showWordsLine(currentCommand());
 }
 
@@ -41,10 +42,10 @@ const ASKED_OF_HERD = { exists: 'Allowed', '~exists': 'Forbidden', forall: 'Requ
 
 /** All outcomes in the form of herd7, of which tools read the lines of states. */
 function inFormOfHerd({ test, states, observation: { word, true: yes, false: no }, verdict }, input) {
-  const [, asks, proposition] = /^\s*(~\s*exists|exists|forall)\b([^]*)/m.exec(input.replace(/\(\*[^]*?\*\)/g, '')), quantifier = asks.replace(/\s/g, '');
+  const [asks, proposition] = conditionOf(input), quantifier = asks.replace(' ', '');
   const lines = states.map(({ values }) => Object.entries(values).map(([name, value]) => `${name.includes(':') ? name : `[${name}]`}=${value};`).join(' '));
   return `${[`Test ${test} ${ASKED_OF_HERD[quantifier]}`, `States ${states.length}`, ...lines, verdict, 'Witnesses', `Positive: ${yes} Negative: ${no}`,
-    `Condition ${quantifier} ${proposition.trim().replace(/\s+/g, ' ')}`, `Observation ${test} ${word} ${yes} ${no}`].join('\n')}\n`;
+    `Condition ${quantifier} ${proposition}`, `Observation ${test} ${word} ${yes} ${no}`].join('\n')}\n`;
 }
 
 /** JSON in lines, one for each member and for each part of a list of objects. */
@@ -70,15 +71,21 @@ async function showFormat() {
   }
   if (formats.texts !== texts || formatNow() !== name) return;
   byId('report').textContent = laidOut(texts[name], name);
-  putReportKey(texts[name]);
-  putText(byId('report-note'), besideNote(name));
+  fill(byId('report-note'), besideNote(name), ...whyNote());
 }
 
 /** What the page adds to an answer, which no text of it has; and what is counted in the form of herd7. */
 function besideNote(name) {
   if (name === 'herd') return 'It counts outcomes, where herd7 counts executions.';
   const added = byId('states').querySelector('.alone-said, .sequential') ? ['What the page says of sequential consistency, and of cycles, isn\'t in this text.'] : [];
-  return [...added, ...[...queryAll('#states .ways-said')].map(said => said.textContent)].join(' ');
+  return [...added, ...[...queryAll('#states .ways-said')].map(said => said.textContent), currentCommand() === 'why' && textShown().includes('implied') ? '“implied” is “lock” in the picture.' : ''].join(' ').trim();
+}
+
+/** Beside a search that met its limit: that the answer to the condition is that of `why`, which no text of the search has. */
+function whyNote() {
+  const { met = [], unfinished } = JSON.parse(formats.texts.json ?? '{}'), can = currentCommand() === 'outcomes' && unfinished && !isDecided(met) ? knownByWhy() : null;
+  if (can === null) return [];
+  return [` This is the search alone. That ${endSaid(inputOf('why'), can)} is the answer of “Why”: `, html('button', { class: 'quiet', 'data-ask': 'why' }, `its text has the ${can ? 'run' : 'proof'}`), '.'];
 }
 
 /** What stands in the field of the report, as a file. */
@@ -87,6 +94,11 @@ function saveFormat() {
   saveText(fileName(testName(), isJson ? '.json' : '.txt'), textShown(), isJson ? 'application/json' : 'text/plain');
 }
 
+on(byId('to-report'), 'click', () => {
+  byId('report-part').open = true;
+  byId('report-part').scrollIntoView();
+  focusOn(query('#formats :checked'));
+});
 on(byId('formats'), 'change', () => {
   byId('report-copied').textContent = '';
   showReport();

@@ -2,11 +2,15 @@
 
 // The task that stands over a test with a condition: to end as it asks. Where that can't be, or nobody knows yet, it is a question.
 
-/** Tasks that have words of their own, by the test's name and its proposition. One that speaks of misses is for who sees the caches. */
+/** Tasks that have words of their own, by the test's name and its proposition. */
 const TASKS = {
   'SBF 0:EAX=0 /\\ 1:EAX=0': 'Make both loads read 0, past the fences.',
   'false-sharing 1:EAX=1': 'Step to the end. Each core uses its own word alone: why does each access miss?',
+  'false-sharing-loads 0:EBX=1': 'Step to the end, under all four. How do the protocols differ?',
 };
+
+/** Whether a task is about what caches do: it is for who sees them. */
+const isOfCaches = task => task?.startsWith('Step to') === true;
 
 /** The places of a proposition with the words that it wants there, where it speaks of nothing else; else null. */
 function wantedWords(proposition) {
@@ -17,13 +21,18 @@ function wantedWords(proposition) {
 
 const isRegister = ({ register }) => register !== undefined;
 const wantedSentence = places => listed(places.map(part => `${part.word} in ${placeWords(part)}`));
-const MANY_TERMS = 6; // from which on they stand below a sentence
+const MANY_TERMS = 4; // that an answer has in words; a task has two more
 const isLongEnd = places => places !== null && places.length > MANY_TERMS;
 const endWords = places => (places === null || isLongEnd(places) ? 'so' : `with ${wantedSentence(places)}`);
 
-/** The terms of a long condition, in small letters; folded where they are very many. */
-const termsPart = places => (!isLongEnd(places) ? [] : [html('details', { class: 'small', ...(places.length > 2 * MANY_TERMS ? {} : { open: '' }) },
-  html('summary', {}, `What is asked for: ${places.length} values`), html('p', {}, `${wantedSentence(places)}.`))]);
+/** A condition's quantifier and its proposition, as they are written. */
+const conditionOf = test => /^\s*(~\s*exists|exists|forall)\b([^]*)/m.exec(test.replace(/\(\*[^]*?\*\)/g, '')).slice(1).map(part => part.trim().replace(/\s+/g, ' '));
+
+/** A long condition as it is written. */
+function termsPart(test) {
+  const { proposition } = readTest(test);
+  return isLongEnd(proposition && wantedWords(proposition)) ? [html('p', 'small condition', html('code', {}, conditionOf(test).join(' ')))] : [];
+}
 
 const placeWords = ({ core, register, location }) => (register === undefined ? location : `P${core}'s ${register}`);
 
@@ -41,8 +50,8 @@ const quantifierOf = test => /^[ \t]*(~[ \t]*exists|exists|forall)\b/m.exec(test
 /** What a task asks for, in words. `forall` is shown wrong by any other end. */
 function taskSentence(name, proposition, quantifier, programs) {
   const own = TASKS[`${name} ${proposition}`], wanted = wantedWords(proposition);
-  if (own && quantifier === 'exists' && (!own.includes('miss') || (showsCaches(drivenMachines()) && !isExercise()))) return own;
-  if (isLongEnd(wanted)) return `End ${quantifier === 'forall' ? 'otherwise than' : 'as'} the condition asks, with ${wanted.length} values.`;
+  if (own && quantifier === 'exists' && (!isOfCaches(own) || (showsCaches(drivenMachines()) && !isExercise()))) return own;
+  if (wanted?.length > MANY_TERMS + 2) return `End ${quantifier === 'forall' ? 'otherwise than' : 'as'} the condition asks, with ${wanted.length} values.`;
   const said = wanted ? wantedSentence(wanted) : proposition, ofLoads = wanted && quantifier !== 'forall' && loadsSentence(wanted, programs);
   if (ofLoads) return `Make ${ofLoads}.`;
   return quantifier === 'forall' ? `End otherwise than with ${said}.` : `End with ${said}.`;
@@ -50,8 +59,8 @@ function taskSentence(name, proposition, quantifier, programs) {
 
 const CLAIMS = { exists: '', '~exists': 'The test claims that no run ends so. ', forall: 'The test claims that each run ends so. ' };
 
-/** What stands before a task: where nobody knows that it can be done, that is the question. */
-const taskTitle = can => (can === true ? 'Task:' : 'Can this be done?');
+/** What stands before a task: that it can be done is a question, until the reader knows it. */
+const taskTitle = (can, task) => (can || isOfCaches(task) ? 'Task:' : 'Can this be done?');
 
 /** The word at a place that a proposition names, after so many steps. */
 function wordAtPlace(machine, { core, register, location }) {
@@ -108,7 +117,7 @@ function missedSentence(history, count, quantifier) {
 
 /** That it is done; where misses were to be counted, how many there are. */
 function doneWord(history, count) {
-  const isCounted = TASKS[`${testName()} ${history.proposition}`]?.includes('miss') && showsCaches(drivenMachines());
+  const isCounted = isOfCaches(TASKS[`${testName()} ${history.proposition}`]) && showsCaches(drivenMachines());
   if (!isCounted) return 'Done.';
   const under = drive.histories.length > 2 ? `Under ${history.options.protocol.toUpperCase()}: ` : 'With ';
   return `Done. ${under}${tallyText(history.steps, count).replace('so far ', '')}.`;
@@ -120,7 +129,7 @@ const SHORT_TASK = 30; // letters: what is said after it stands in one line with
 /** What is said after a try. */
 function afterTry(history, count, met, quantifier, can) {
   if (met === null) return isRefuted() ? '' : lostSentence(history, count, quantifier);
-  if (!met) return ` ${missedSentence(history, count, quantifier)}${can === true ? ' Go back, or make other choices.' : ''}`;
+  if (!met) return ` ${missedSentence(history, count, quantifier)}${can ? ' Go back, or make other choices.' : ''}`;
   const isOfAnswer = isAnswersRun(), done = isOfAnswer ? '' : doneWord(history, count);
   const then = isOfAnswer && history.steps.length <= FEW_CHOICES ? 'Now make it yourself.' : '';
   return [done, quantifier === 'exists' ? '' : 'So the claim of the test is wrong.', then].map(words => words && ` ${words}`).join('');
@@ -137,7 +146,7 @@ function moreOfTry(history, count, met) {
 function taskWords(quantifier, proposition, { isDone, isShown }, can) {
   const task = `${CLAIMS[quantifier]}${taskSentence(testName(), proposition, quantifier, firstHistory().programs)}`;
   if (isDone) return `✓ Task: ${task}`;
-  return isRefuted() ? `${task} It can't be done: ${quantifier === 'forall' ? 'each' : 'no'} run ends so.` : `${isShown ? '▷ Shown by the answer:' : taskTitle(can)} ${task}`;
+  return isRefuted() ? `${task} It can't be done: ${quantifier === 'forall' ? 'each' : 'no'} run ends so.` : `${isShown ? '▷ Shown by the answer:' : taskTitle(can, task)} ${task}`;
 }
 
 const lectured = { key: null }; // of which test the question stands there
@@ -157,6 +166,7 @@ function showQuestion(asked = drive.test) {
 function showTask(history, count, run) {
   showQuestion();
   const { proposition } = history, quantifier = quantifierOf(drive.test), hasTask = proposition !== null && quantifier !== null && !isLesson(), isAsked = isAskedTwice();
+  putText(byId('asks'), hasTask && proposition.length < 2 * SHORT_TASK ? conditionAsked(drive.test, history) : '');
   byId('task').hidden = !hasTask || isAsked;
   placeAnswers(hasTask && isExercise() && !isAsked);
   if (!hasTask) return showExercise();
@@ -164,13 +174,13 @@ function showTask(history, count, run) {
   const met = isMet(history, count, run?.condition, quantifier), isDone = met === true && !isAnswersRun();
   if (isDone && isExercise()) exercise.isSolved = true;
   if (isDone) judgeThought(true);
-  const isOpen = isExercise() && !exercise.isSolved, can = isOpen ? null : canBe(), after = afterTry(history, count, met, quantifier, can), { classList } = byId('task');
+  if (isDone) possible.told = drive.test;
+  const can = (!isExercise() || exercise.isSolved) && isKnownToBe(), after = afterTry(history, count, met, quantifier, can), { classList } = byId('task');
   classList.toggle('met', isDone);
   putClass(byId('exercise'), 'met', isDone);
   classList.toggle('short', !isExercise() && (CLAIMS[quantifier] + taskSentence(testName(), proposition, quantifier, history.programs)).length <= SHORT_TASK);
-  classList.toggle('asked', met !== true && possible.isAsked && !isOpen); // so that its title doesn't change before one's eyes
   putText(byId('task-said'), isAsked ? '' : taskWords(quantifier, proposition, { isDone, isShown: met === true && !isDone }, met ? true : can));
-  const offers = (isDone || (met === false && can !== true && !isExercise())) && !isUnanswered() && query('#commands [value=why]') !== null;
+  const offers = (isDone || (met === false && !can && !isExercise())) && !isUnanswered() && query('#commands [value=why]') !== null;
   showExercise(after);
   putText(byId('task-after'), isExercise() ? '' : after);
   putText(byId('task-more'), isExercise() ? '' : moreOfTry(history, count, met));

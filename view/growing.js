@@ -15,7 +15,7 @@ const LAYERS = ['grounds', 'waits', 'arrows', 'entries'];
 class WaitingBar {
   constructor(layout, store) {
     const { top, pitch } = layout, x = layout.trackOf(store), wide = Math.min(7, pitch * 0.7);
-    const head = pitch === TRACK.most ? 16 : 2;
+    const head = pitch === TRACK.most ? 20 : 2;
     const place = head > 2 ? [nameOverBar(layout, store, top(store.since))] : [];
     this.top = top(store.since) + head;
     this.bar = svg('rect', { class: 'certain', x: x - wide / 2, y: this.top, width: wide });
@@ -44,7 +44,7 @@ function mostRows(programs) {
 function drawStores(layout, core, text) {
   const { left, lane, inner } = layout, room = lane - inner - 8, place = { x: left(core) + inner + 4, 'text-anchor': 'start' };
   const font = noteFont(layout), said = NOT_YET.find(words => words.length * font * GLYPH <= room) ?? NOT_YET[1];
-  return svg('g', 'not-yet', fittingText({ class: 'faint', ...place, y: 15 }, font, said, room), fittingText({ ...place, y: 35 }, font + 2, text, room));
+  return svg('g', 'not-yet', fittingText({ class: 'faint', ...place, y: 18 }, font, said, room), fittingText({ ...place, y: 38 }, layout.label, text, room));
 }
 
 /** The load part of a locked instruction whose store part is to come, in the strip. */

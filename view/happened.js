@@ -125,12 +125,14 @@ function copySentences(step) {
   return [...(sent ? [`P${sent.core} sent its copy.`] : []), `${listed(taken.map(({ core }) => `P${core}'s`))} ${taken.length === 1 ? 'copy' : 'copies'} of ${lineSaid(taken[0].line)} became invalid.`];
 }
 
-/** At the end of a run whose cores took a line from each other for words of their own: how many accesses missed. */
+/** At the end of a run whose cores use words of their own: how many accesses missed, where cores took a line from each other, or in a test about that none did. */
 function sharedLine({ steps }, count) {
   const made = count < steps.length ? [] : steps.filter(({ access, entries }) => access && entries.length > 0), sizeOf = part => new Set(made.map(part)).size, wordOf = ({ entries }) => entryOf(entries[0]).location;
   const missed = made.filter(({ access }) => access === 'miss'), taken = missed.filter(step => stateChanges(step).some(({ core }) => core !== coreOfChoice(step.choice)));
-  const words = taken.length > 0 && isAtEnd(drive) && sizeOf(wordOf) === sizeOf(step => coreOfChoice(step.choice) + wordOf(step)) ? stateChanges(taken[0])[0].line.split('+') : [];
-  return words.length > 1 ? ` ${missed.length} of ${made.length} accesses missed: ${listed(words)} share a line, and ${taken.length} of them took it from the other core.` : '';
+  if (!made[0] || !isAtEnd(drive) || sizeOf(wordOf) !== sizeOf(step => coreOfChoice(step.choice) + wordOf(step))) return '';
+  const words = taken[0] ? stateChanges(taken[0])[0].line.split('+') : [], said = ` ${missed.length} of ${made.length} accesses missed`;
+  if (words.length > 1) return `${said}: ${listed(words)} share a line, and ${taken.length} of them took it from the other core.`;
+  return taken[0] || !notesOf(drive.test).Words ? '' : `${said}. None took a line from the other core.`;
 }
 
 /** The lines whose state a step changed, as `P1.x S→I`, for the panels and for reading. */

@@ -13,6 +13,7 @@ const IN_WORDS_OF_THE_PAGE = [
   ['name fewer atoms', 'name fewer registers and locations'],
   ['the proposition', 'the condition'],
   ['lower --depth', 'lower --depth (then it is less than TSO)'],
+  [/(?='LOCK (?:XADD|CMPXCHG) \w+,\[)('.*?': )/i, '$1the location comes first: '],
   [/no ; ends (?:this row .*|(the row .*): a row.*)/, '$1 needs a ; at its end'],
   [/; leave out the ; behind it.*/, ', and leave out the ; behind it'],
   [/(\w+) is no instruction: write (exists|forall)/, '“$1” isn\'t read: write $2'],
@@ -58,15 +59,24 @@ const straySaid = test => strayNames(test).map(name => `${name} is no location o
 /** The same before an answer. */
 const strayPart = test => [straySaid(test)].filter(Boolean).map(said => html('p', 'stray', said));
 
+/** What is said of a location that is only read, or only written, where another's name differs by case or a letter. */
+function nearSaid(test) {
+  const { programs, proposition } = readTest(test), all = programs.flat(), named = texts => `${texts}`.match(/\b(?!E..\b)[a-z_]\w*/gi) ?? [], without = (name, at) => name.slice(0, at) + name.slice(at + 1);
+  const read = named([...all.filter(text => !/^MOV \[/i.test(text)), proposition]), written = named([...all.filter(text => !/^MOV E/i.test(text)), /\{[^}]*/.exec(test)]);
+  const isNear = (one, other) => one !== other && (one.toLowerCase() === other.toLowerCase() || [...one].some((sign, at) => [other, one[2] && /\D/.test(sign) && without(other, at)].includes(without(one, at))));
+  const said = (names, others, how) => names.filter(name => !others.includes(name)).flatMap(name => others.filter(other => isNear(name, other)).map(other => `Note: ${name} is ${how}: is ${other} meant? `));
+  return [...said(read, written, 'read and never written'), ...said(written, read, 'written and never read')][0] ?? '';
+}
+
 const lineOfCondition = test => test.split('\n').findIndex(text => quantifierOf(text) !== null) + 1;
 
-/** What is said of a condition that names what nothing writes. */
+/** What is said of a location's name, and of a condition that names what nothing writes. */
 function noticeOf(test) {
   if (notice.test === test) return notice.said;
   const [found = ''] = /the condition names .*, which no instruction [^]*stays \d+/.exec(asked({ command: 'sweep', seeds: 1 }, test).hint) ?? [];
   const isNew = said => !found.includes(said.slice(0, said.indexOf(',')));
   const said = [straySaid(test), found && `${found.replace(/core (?=\d)/g, 'P')}.`, ...unwrittenSaid(test).filter(isNew)].filter(Boolean);
-  Object.assign(notice, { test, said: said.length === 0 ? '' : `Note, line ${lineOfCondition(test)}: ${said.join(' And ')}` });
+  Object.assign(notice, { test, said: nearSaid(test) + (said.length === 0 ? '' : `Note, line ${lineOfCondition(test)}: ${said.join(' And ')}`) });
   return notice.said;
 }
 
@@ -100,12 +110,21 @@ function cellsRefused(test, number, hint) {
 /** What stands before a second instruction of a cell; bars around none. */
 const SECOND = /(?<=[^\s|])(?<!\bLOCK)\s+(?:[,;!/\\lI]\s+)?(?=LOCK\s|MFENCE\b|(?:MOV|XCHG|XADD|CMPXCHG|ADD|SUB|INC|DEC|AND|OR|XOR|NEG|NOT)\s)/gi, BARS = /\|\s*(?:\||(?=;?\s*$))/g;
 
+/** A row with too few cells, and empty ones: before a single cell those above whose right it begins. */
+function withBars(lines, at) {
+  const row = lines[at].replace(/;?\s*$/, ''), heads = cellsOf(lines[spanOf(lines)[0]] ?? ''), cells = cellsIn(row);
+  const before = cells[1] ? 0 : Math.max(0, heads.findLastIndex(({ from }) => from <= cells[0].from)), after = heads.length - cells.length - before;
+  return row.includes(';') || after < 0 || /^[\s|]*$/.test(row) ? '' : `${' |'.repeat(before)}${row}${' |'.repeat(after)} ;`;
+}
+
 /** Of a row with too many or too few cells what is marked, and the test with the right bars, or null where these aren't certain. */
 function barsOf(lines, at) {
   const line = lines[at], cells = cellsOf(line), cores = cellsOf(lines[spanOf(lines)[0]] ?? '').length, isMore = cells.length > cores;
   const places = isMore ? BARS : /;.*;/.test(line) ? /;(?=.*;)/g : SECOND, [place] = line.matchAll(places);
   const text = line.replace(places, bars => (isMore ? bars.slice(1).trim() : bars === ';' ? '|' : ' | '));
-  const last = isMore ? { ...cells.at(-1), core: undefined } : [], marked = places === SECOND ? cells.filter(each => each.text.search(SECOND) > 0) : place ? { from: place.index, text: place[0] } : last;
+  const short = !isMore && text === line && withBars(lines, at);
+  const last = isMore ? { ...cells.at(-1), core: undefined } : short ? cells[0] : [], marked = places === SECOND ? cells.filter(each => each.text.search(SECOND) > 0) : place ? { from: place.index, text: place[0] } : last;
+  if (short) return { marked: [marked].flat(), mended: { text: lines.with(at, short).join('\n'), isOther: true, line: at + 1, said: '| added' } };
   return { marked: [marked].flat(), mended: text !== line && cellsOf(text).length === cores ? { text: lines.with(at, text).join('\n'), isOther: true, line: at + 1, said: isMore ? 'one | left out' : '| between cells' } : null };
 }
 
@@ -134,13 +153,20 @@ const OTHER_REPAIRS = [
 ];
 
 const LISTING = /^(hint: line \d+: )?(instructions alone|this is an? (dis)?assembl)/;
-const FRAMELESS = /no rows stand before|before (?:its|the) initial state|no line begins a test|no header|as papers have it|this is C\b/;
-const OFFERED = [[FRAMELESS, 'this isn\'t a whole test yet'], [LISTING, 'this is a listing. The button makes a test of it'], [/X86_64/, 'this is a test of X86_64. The button makes it one of X86']];
+const FRAMELESS = /no rows stand before|before (?:its|the) initial state|no line begins a test|no header|as papers have it|C is a language|this is C\b/;
+const OFFERED = [[/C is a|is C\b/, 'this is C'], [FRAMELESS, 'this isn\'t a whole test yet'], [LISTING, 'this is a listing. The button makes a test of it'], [/X86_64/, 'this is a test of X86_64. The button makes it one of X86']];
 /** Says what a button without a name writes: a cell on it, or all before it. */
 function offerRepairs(test, { text, changes }, name) {
-  const was = test.split(/[|;\n]/), [cell, ...more] = text.split(/[|;\n]/).filter((each, at) => each !== was[at]), count = changes.length, isOne = count === 1 && cell && !more[0];
-  byId('write-so').textContent = name || (isOne ? `Write ${cell.trim()}` : `Write it so${count > 1 ? `: ${count} changes` : ''}`);
-  fill(byId('to-write'), ...withCode(name !== false || isOne ? '' : `Changes: ${changesSaid(changes, true).replace(/(\[[^;(]* became (LOCK|[^;]* and )[^;]*)(?=;|\. $)/g, '$1 (another meaning)').replaceAll(' became', ' becomes').replaceAll(' was ', ' is ')}`));
+  const was = test.split(/[|;\n]/), [cell, ...more] = text.split(/[|;\n]/).filter((each, at) => each !== was[at]), count = changes.length;
+  const [{ said, line }] = count === 1 ? changes : [{}], isEnd = said === '; was added', isOne = isEnd || (said && cell && !more[0]);
+  byId('write-so').textContent = name || (isOne ? `Write ${isEnd ? `; at the end of line ${line}` : cell.trim()}` : `Write it so${count > 1 ? `: ${count} changes` : ''}`);
+  fill(byId('to-write'), ...withCode(name !== false || isOne ? '' : `Changes: ${changesSaid(changes.map(each => (each.cores?.[0] ? each : { ...each, cores: [each.line ?? []].flat() })), true).replace(/(?<!\bLOCK [^;[]*)\[[^;(]* became (LOCK|[^;]* and )[^;]*(?=;|\. $)/g, (all, how) => `${all} (${how === 'LOCK' ? 'now in one step' : 'in steps: another core can act between them'})`).replaceAll(' became', ' becomes').replaceAll(' was ', ' is ')}`));
+}
+
+/** A hint with the free register that a change took. */
+function withFree(hint, change) {
+  const [all, named] = /, with a free register for (E..)$/.exec(hint.trim()) ?? [], [free] = /\bE[A-DS][IX]\b/.exec(change?.said.split(' became ')[1]) ?? [];
+  return all && free ? hint.replace(all, '').replaceAll(named, free) : hint;
 }
 
 const ADDRESS = /^\s*[\da-f]+:\s*(?:[\da-f]{2}(?:\s+|$))*/; // and bytes
@@ -155,7 +181,7 @@ const isListing = text => !text.includes('|') && 2 * text.match(OF_LISTING)?.len
 const STATEMENT = new RegExp('^(?:(?:\\w+ +)*\\*?\\w+ *= *(?:\\*?\\w+|CALL)|m?fence|CALL)$'.replaceAll('CALL', '[\\w.:]*(?:store|load|exchange|fetch|fence|once|_mb|synchronize)\\w*\\([^()]*\\)'), 'i');
 
 /** The statements of threads, each in a line, or all in one with bars between. */
-const statementsIn = lines => lines.flatMap(line => line.split(lines.length === 1 ? /\|+/ : '||')).map(line => line.replace(/^[\w ]+:(?!:)/, '').split(';').map(each => each.trim()).filter(Boolean));
+const statementsIn = lines => lines.flatMap(line => line.split(lines.length === 1 ? /\|+/ : '||')).map(line => line.replace(/^[\w ]+:(?!:)/, '').split(';').map(each => each.trim()).filter(each => each && !/^u?int[\w\s,*]+$/.test(each)));
 
 /** These as rows; else null. */
 function threadsIn(lines) {
@@ -163,11 +189,16 @@ function threadsIn(lines) {
   return most > 1 && threads.flat().every(each => STATEMENT.test(each)) ? times(most, at => threads.map(each => each[at] ?? '')) : null;
 }
 
-/** What is said of a statement in a line of threads that isn't understood. */
+/** A jump in C, or a call with its end; and how a C test of herd7 begins. */
+const JUMPS = /(?<=^|[;{}|:)])\s*(?:(if|while|for|switch)\s*\(|((?:[\w ]+=\s*)?[\w.:]+\([^()]*\))(?=\s*[;|]))/gm, HERDS = /^C\s+(\S+)\s*\{([^}]*)\}/;
+
+/** What is said of a jump or a call beside what is understood, or of a statement in a line of threads that isn't. */
 function strangeIn(test) {
   const [line, other = 'exists'] = test.trim().split(/\s*\n\s*/);
   const strange = /;.*\||\|.*;\s*[^\s;]/.test(line) && !/[{}]/.test(test) && quantifierOf(other) !== null && statementsIn([line]).flat().find(each => !STATEMENT.test(each));
-  return strange ? { field: 'test', line: 1, said: `Line 1: “${strange}” isn't understood. Write x = 1, r0 = y or fence, with ; between them and | between threads.` } : undefined;
+  const found = /=|store|load/.test(test) && [...test.matchAll(JUMPS)].find(([, jump, call]) => jump || !STATEMENT.test(call)), [all, jump, said = strange] = found || [''];
+  const at = found ? countLines(test.slice(0, found.index + all.length)) : 1, why = jump ? `'${jump}' can't be written: a test has no jumps.` : `“${said}” isn't understood. Write x = 1, r0 = y or fence, with ; between them and | between threads.`;
+  return jump || said ? { field: 'test', line: at, said: `Line ${at}: ${why}` } : undefined;
 }
 
 /** A text with each function, or what follows each label, in a line. */
@@ -176,12 +207,12 @@ const inThreads = test => (/^[\w ]+:\s*$/m.test(test) ? test.replace(/\n(?!\s*([
 
 /** Rows of instructions, or of C, as a test; null where they aren't plain rows of some cores. */
 function framed(test) {
-  const plain = inThreads(test), lines = plain.split('\n').filter(line => line.trim() !== ''), head = /^X86/.test(lines[0] ?? '') && lines.shift();
+  const [, title, start = ''] = HERDS.exec(test) ?? [], plain = inThreads(test.replace(HERDS, '')), lines = plain.split('\n').filter(line => line.trim() !== ''), head = title ? `X86 ${title}` : /^X86/.test(lines[0] ?? '') && lines.shift();
   const asked = lines.findIndex(line => quantifierOf(line) !== null), last = asked < 0 ? lines.length : asked;
   const named = lines.slice(0, last).filter(line => !/^\s*(P|Thread )\d\s*[|;]/i.test(line)).map(line => line.replace(/:=/g, '=').replaceAll('std::', '')), rows = threadsIn(named) ?? named.map(line => line.replace(/;\s*$/, '').split(/\|+/).map(cell => cell.replace(/;\s*$/, '').trim()));
   if (!(rows[0]?.length > 1) || rows.some(({ length }) => length !== rows[0].length) || /[{}]/.test(plain) || strangeIn(test)) return null;
   const above = rows[0].map((_, core) => `P${core}`);
-  return { text: [head || 'X86 mine', '{ }', ...[above, ...rows].map(cells => ` ${cells.join(' | ')} ;`), ...lines.slice(last), ''].join('\n'), isOther: true, isFrame: true, said: `${head ? '' : 'a name, '}{ }${named.length < last ? '' : ' and the row of cores'} added` };
+  return { text: [head || 'X86 mine', `{ ${start.trim()} }`.replace(/ +/, ' '), ...[above, ...rows].map(cells => ` ${cells.join(' | ')} ;`), ...lines.slice(last), ''].join('\n'), isOther: true, isFrame: true, said: `${head ? '' : 'a name, '}{ }${named.length < last ? '' : ' and the row of cores'} added` };
 }
 
 /** A listing with locations as in a test: N_x for N::x, x_8 for x+8. */

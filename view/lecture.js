@@ -38,7 +38,7 @@ function nameLecture(button) {
   return button;
 }
 
-const lectureButton = () => nameLecture(html('button', { 'data-lecture': '' }));
+const lectureButton = () => nameLecture(html('button', { class: 'quiet', 'data-lecture': '' }));
 
 function putLecture(isOn) {
   if (!isOn && isLecture()) noteEnded();
@@ -69,12 +69,12 @@ function askToEnd(isAsked = true) {
   if (isAsked) setTimeout(askToEnd, ASKED_TWICE, false);
 }
 
-/** Begins or ends the mode: a list at its first test, a whole run at its start. Some browsers give no whole screen. */
-async function toggleLecture() {
-  const isOn = !isLecture(), isOnward = isOn && isToGoOn() && !isLesson();
+/** Begins or ends the mode: a list at this test, a whole run at its start. Some browsers give no whole screen. */
+async function toggleLecture(at = 0) {
+  const isOn = !isLecture(), isOnward = isOn && !at && isToGoOn() && !isLesson();
   putLecture(isOn);
   if (isOnward) goOnWithLecture(lastLecture);
-  else if (isOn && taught.list.length > 0 && !isLesson()) openListed(0);
+  else if (isOn && taught.list.length > 0 && !isLesson()) openListed(Number(at));
   if (isOn && !isOnward && drive.isOn && !isLesson() && drive.count === drive.words.length) goTo(0);
   try {
     if (isOn) await ROOT.requestFullscreen();
@@ -135,12 +135,12 @@ function isInRun() {
 
 const MOST_IN_TURN = 8; // outcomes that come one by one
 
-/** The parts of a lecture's outcomes, which come in turn: each row, or many at once; then the answer. */
+/** The parts of a lecture's outcomes, which come in turn: each row, or many at once; then the answer, with what is sought. */
 function outcomesInTurn() {
-  const all = selector => [...byId('states').querySelectorAll(selector)], rows = drive.isOn || isLesson() ? [] : all('.states-sheet tbody tr');
-  if (rows.length === 0) return [];
-  const [first, ...others] = rows.length > MOST_IN_TURN ? [rows] : rows.map(row => [row]);
-  return [[...first, ...all('.alone-said')], ...others, all('.slide-said > :not(.asked), .never')];
+  if (drive.isOn || isLesson() || !query('#states .states-sheet')) return [];
+  const all = selector => [...byId('states').querySelectorAll(selector)], rows = all('.states-sheet tbody tr:not(.met)');
+  const [first = [], ...others] = rows.length > MOST_IN_TURN ? [rows] : rows.map(row => [row]);
+  return [[...first, ...all('.alone-said')], ...others, all('.states-sheet .met, .slide-said > :not(.asked), .never')].filter(part => part.length > 0);
 }
 
 /** A lecture asks before its outcomes, and has what is sought last, not first. */
@@ -160,8 +160,8 @@ function showInTurn(count = Infinity) {
 
 const drawnCycle = () => (sheet.cycle?.last > 1 && sheet.cycle.element.isConnected && !drive.isOn ? sheet.cycle : null);
 
-/** Whether why comes after a run: where no entry shows it, nor caches are shown, of which it tells nothing. */
-const isWhyNext = () => drive.isOn && !(isOfEntry() && isListed('why')) && firstHistory().proposition !== null && !showsCaches(drivenMachines()) && !isExercise() &&
+/** Whether why comes after a run: where no entry shows it or drops it, nor caches are shown, of which it tells nothing. */
+const isWhyNext = () => drive.isOn && !(isOfEntry() && (isListed('why') || taught.list[playlist.at].noReason)) && firstHistory().proposition !== null && !showsCaches(drivenMachines()) && !isExercise() &&
   query('#commands [value=why]') !== null;
 
 /** What PageDown does next, as the foot says it, and how: a step of what is shown, or what comes after it. */
@@ -170,7 +170,7 @@ function onward() {
   if (cycle && cycle.shown < cycle.last) return [cycle.shown < cycle.closed ? `shows arrow ${cycle.shown + 1} of ${cycle.closed}` : 'shows all arrows', () => cycle.move('next')];
   if (isLesson()) return ['the lesson goes on', () => clickLesson(true)];
   const parts = outcomesInTurn(), many = shownInTurn(parts), last = parts.length - 1;
-  if (many <= last) return [many === last ? 'shows the answer' : last === 1 ? 'shows the outcomes' : `shows outcome ${many + 1} of ${last}`, () => {
+  if (many <= last) return [many === last ? 'shows the answer' : last === 1 ? 'shows the outcomes' : `shows outcome ${many + 1} of ${query('#states .states-sheet tbody').rows.length}`, () => {
     showInTurn(many + 1);
     parts[many][0].scrollIntoView({ block: 'center' });
   }];
@@ -272,16 +272,17 @@ on(document, 'keydown', event => {
   byId('test-part').open = false; // what is edited is out of the hall's sight again
   click(event.key === 'PageDown');
 });
-for (const kind of ['wheel', 'pointerdown', 'click', 'input']) on(document, kind, forgetJustEnded, { passive: true });
-for (const kind of ['scroll', 'click']) on(document, kind, showFoot, { passive: true });
-for (const kind of ['keydown', 'wheel', 'pointerdown', 'pointermove']) on(document, kind, () => putLed(kind === 'keydown' && isLecture()), { passive: true });
+const onEach = (kinds, act) => kinds.split(' ').forEach(kind => on(document, kind, act, { passive: true }));
+onEach('wheel click input', forgetJustEnded);
+onEach('scroll click', showFoot);
+onEach('keydown wheel pointerdown pointermove', ({ type }) => putLed(type === 'keydown' && isLecture()));
 on(document, 'fullscreenchange', () => {
   if (!document.fullscreenElement && isLecture()) askToEnd();
 });
 on(document, 'click', ({ target, detail }) => {
   if (target.matches('[data-onward]')) click(true);
-  if (!target.matches('[data-lecture]')) return;
-  toggleLecture();
+  if (!target.matches('[data-lecture], [data-start]')) return;
+  toggleLecture(target.dataset.start);
   putLed(isLecture());
   if (detail > 0) target.blur(); // so no key of a clicker presses it again
 });

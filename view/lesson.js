@@ -2,9 +2,9 @@
 
 // A lesson that runs: its steps are told, asked, and done on the machine. The lessons themselves are data (lessons.js, taught.js).
 
-const IN_LESSON = Object.freeze({ told: null, at: 0, isDone: false, answer: null, before: '', refused: '', isStrayed: false, views: '' });
+const IN_LESSON = Object.freeze({ told: null, at: 0, isDone: false, answer: null, before: '', refused: '', since: 0, isStrayed: false, views: '' });
 
-/** The lesson that runs (`told`, or null), its step and how far that is, what came `before` it, whether the reader went another way, and the `views`
+/** The lesson that runs (`told`, or null), its step, how far and `since` when, what came `before` it, whether the reader went another way, and the `views`
  * in the machine's place. */
 let lesson = IN_LESSON;
 const isLesson = () => lesson.told !== null;
@@ -51,6 +51,15 @@ function isSum() {
   return isDone && steps[at].say !== undefined && steps[at].then === undefined && (!next || next.test !== undefined);
 }
 const isAsked = () => isLesson() && !lesson.isDone && stepNow().ask !== undefined;
+
+/** The number of the next step that asks or does something on this test, or -1. */
+function nextToAct() {
+  const { told, at, isDone, isStrayed } = lesson;
+  const next = isDone && !isStrayed ? told.steps.findIndex((step, each) => each > at && (step.ask ?? step.do ?? step.show ?? step.test)) : -1;
+  return told?.steps[next]?.test ? -1 : next;
+}
+/** Whether Next comes to a question: the machine waits as it does there. */
+const isOnlyRead = () => lesson.told?.steps[nextToAct()]?.ask !== undefined;
 
 /** What its part showed since the last choice, which stands in place of the machine. */
 function viewsAt(steps, at, isDone) {
@@ -106,7 +115,7 @@ function enterStep(at, { isBack = false, before = '' } = {}) {
   const isDone = question === undefined && word === undefined && (shows === undefined || isBack), views = viewsAt(steps, at, isDone);
   const { then, because, say } = word !== undefined && at > beginOf(steps, at) ? steps[at - 1] : {}; // from which it goes on
   const isThere = views === '' ? isAtPlace(lesson, at) : views === lesson.views && isViewed(views);
-  putLesson({ ...IN_LESSON, told: lesson.told, at, isDone, before: before || then || because || say || '', views });
+  putLesson({ ...IN_LESSON, told: lesson.told, at, isDone, before: before || then || because || say || '', since: performance.now(), views });
   if (!isThere) {
     putTestOf(testOf(lesson.told, at), choicesBefore(steps, at));
     for (const view of views.split(',')) LESSON_SHOWS[view]?.act();
@@ -179,20 +188,13 @@ function showLeft() {
   putText(byId('to-first-test'), isOwn ? 'Back to your own test' : 'Back to the first test');
 }
 
-/** The step to which a choice leads in the place of Next, where it is the lesson's own next one: its own step, or a question before it. Else -1. */
-function stepBy(word) {
-  const { told, at, isDone, isStrayed, views } = lesson, rest = isDone && !isStrayed && views === '' ? told.steps.slice(at + 1) : [];
-  const next = rest.findIndex(step => step.do ?? step.show ?? step.test), asked = rest.findIndex(step => step.ask);
-  if (rest[next]?.do !== word || rest[next].test) return -1;
-  return at + 1 + (asked < 0 ? next : Math.min(next, asked));
-}
-
-/** Whether a choice is made: not while a question waits, since it may tell the answer. */
+/** Whether a choice is made: not while a question waits or comes next, since it may tell the answer. The lesson's own one is made in the place of Next. */
 function lessonAllows(word) {
-  const at = stepBy(word);
-  if (at >= 0) enterStep(at);
-  if (isAsked()) sayInLesson(at < 0 ? 'First answer the question.' : '');
-  return !isAsked();
+  const next = nextToAct();
+  if (isAsked()) sayInLesson('First answer the question.');
+  else if (isOnlyRead()) focusStep();
+  else if (lesson.views === '' && lesson.told?.steps[next]?.do === word) enterStep(next);
+  return !isAsked() && !isOnlyRead();
 }
 
 function sayInLesson(refused) {
@@ -249,7 +251,7 @@ function showSentences() {
   putSaid('lesson-said', step.ask ?? (step.do === undefined ? step.say : ''));
   putClass(byId('lesson-said'), 'sum', isSum());
   putSaid('lesson-after', isStrayed ? `You may go your own way. ${drawn.panels[0]?.sentences.join(' ')}` : refused || (isDone && (step.ask === undefined ? step.then : judgedAnswer(step, answer))) || '');
-  fill(byId('lesson-now'), ...(isAsked() ? (refused === '' ? ['Answer first', html('span', 'by-key', `: press ${step.answers.map((_, each) => keyOf(step.answers, each)).join(', ').replace(/, (?=\S$)/, ' or ')}`), '.'] : []) : wantedNow() === undefined ? [] : pressSaid(steps[at + isDone])));
+  fill(byId('lesson-now'), ...(isAsked() ? (refused === '' ? ['Answer first', byId('letter-keys').checked ? html('span', 'by-key', `: press ${step.answers.map((_, each) => keyOf(step.answers, each)).join(', ').replace(/, (?=\S$)/, ' or ')}`) : '', '.'] : []) : wantedNow() === undefined ? [] : pressSaid(steps[at + isDone])));
   putClass(byId('lesson-now'), 'short', byId('lesson-now').textContent.length <= SHORT_SAID);
   const judged = isStrayed || answer === null || step.right === undefined ? '' : answer === step.right ? 'right' : 'wrong';
   byId('lesson-after').className = `after ${refused === '' ? judged : 'wrong'}`;
@@ -289,6 +291,7 @@ function drawLesson() {
   const isOn = isLesson(), { classList } = ROOT;
   classList.toggle('learning', isOn);
   classList.toggle('questioned', isAsked());
+  classList.toggle('read', isOnlyRead());
   classList.toggle('begun', isOn && lesson.at > beginOf(lesson.told.steps, lesson.at));
   classList.toggle('to-arrows', isOn && /Next arrow/.test(lesson.told.steps[lesson.at].say));
   const { at, isDone } = lesson, asked = isOn && lesson.told.steps.findIndex((step, each) => step.ask && each >= beginOf(lesson.told.steps, at));
@@ -335,11 +338,16 @@ function focusStep() {
   focusOn(waited ?? (lesson.isDone ? null : query('#lesson-answers [data-show]')) ?? byId('lesson-next'));
 }
 
+const TYPED_AHEAD = 500; // milliseconds: a digit is a core's, typed before the question was seen
+
 /** What a key does at a question: a digit or a letter answers, arrows lead to the answers. Whether it did anything. */
 function answerByKey(key) {
   const { answers } = stepNow(), answer = answers.find((_, at) => keysOf(answers, at).includes(key)), way = { ArrowRight: 1, ArrowLeft: -1 }[key];
   const buttons = [...byId('lesson-answers').children], at = buttons.indexOf(focused());
-  if (answer !== undefined && /^[0-7]$/.test(key)) putDrive({ core: Number(key) }); // a choice may be typed as it is written
+  if (answer !== undefined && /^[0-7]$/.test(key)) {
+    putDrive({ core: Number(key) }); // a choice may be typed as it is written
+    if (performance.now() - lesson.since < TYPED_AHEAD) return true;
+  }
   if (answer !== undefined) answerLesson(answer);
   else if (way) buttons[Math.min(Math.max(0, at + way), buttons.length - 1)].focus();
   return answer !== undefined || way !== undefined;

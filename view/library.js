@@ -48,7 +48,7 @@ const isOrderText = ({ file }) => file.endsWith('.order');
 
 /** What stands on top of the list at first: the texts to begin with. */
 const START_HERE = 'Start here';
-const STARTS = ['store-buffering.litmus', 'store-buffering-fenced.litmus', 'SB+mfence+po.litmus', 'MP.litmus', 'false-sharing.litmus', 'CASLOCK.litmus'];
+const STARTS = ['store-buffering.litmus', 'store-buffering-fenced.litmus', 'SB+mfence+po.litmus', 'MP.litmus', 'false-sharing.litmus', 'false-sharing-loads.litmus', 'CASLOCK.litmus'];
 
 /** The texts that this machine reads. */
 const textsHere = () => LIBRARY.filter(({ isLarger }) => bench.hasLargerSet || !isLarger);

@@ -122,18 +122,17 @@ function showLongRun(answer, line, options, input) {
   if (isDrawn) showRun(readLine(line.text.trim()), line.text.trim());
 }
 
-const TOO_MANY = 'Without store buffers (SC) the search met its limit: “Why …?” compares them.';
+const openBeside = status => `Without store buffers (SC) the search ${status === UNENDED ? 'met its limit' : 'was stopped'}: “Why …?” compares them.`;
 
 function showOutcomes(answer, beside, test) {
   const outcomes = readOutcomes(answer.text), sequential = beside?.status === GOOD ? readOutcomes(beside.text) : null;
   showAnswer(answer);
   foldReport(answer);
-  const more = sequential ? besideSentence(outcomes, sequential) : beside?.status === UNENDED ? TOO_MANY : null;
+  const more = sequential ? besideSentence(outcomes, sequential) : beside ? openBeside(beside.status) : null;
   const fine = more === null ? [] : [html('span', 'fine', ` ${more}`)];
   const said = html('p', { role: 'status', class: 'slide-said' }, html('span', 'asked'), ...judgedOutcomes(outcomes, test), verdictOf(observationSentence(outcomes, test)), ...fine);
   const sheetOfAll = statesSheet(outcomes, sequential, truthsOf(outcomes));
-  const { proposition } = readTest(test);
-  fill(byId('states'), answerTitle('All outcomes'), ...strayPart(test), said, ...termsPart(proposition && wantedWords(proposition)), ...sheetOfAll, ...outcomesInTerms(outcomes, sequential));
+  fill(byId('states'), answerTitle('All outcomes'), ...strayPart(test), said, ...termsPart(test), ...sheetOfAll, ...outcomesInTerms(outcomes, sequential));
   showQuestion(test);
   showFromBehind();
 }
@@ -142,7 +141,7 @@ function showOutcomes(answer, beside, test) {
 function judgedOutcomes({ observation, depth }, test) {
   if (observation === null || depth !== SET_AT_FIRST.searched) return [];
   const can = (quantifierOf(test) === 'forall' ? observation.false : observation.true) > 0;
-  if (!can) possible.refuted = test;
+  possible[can ? 'told' : 'refuted'] = test;
   return judgeThought(can);
 }
 
@@ -152,6 +151,6 @@ function showMet(answer, depth, isStopped = false) {
   if (met.states.length === 0) return showUnfinished('outcomes', answer);
   showAnswer({ ...answer, hint: isStopped || knownByWhy() !== null ? '' : answer.hint }); // no limit was met, or why has told
   foldReport(answer);
-  const known = allMet(met.states, depth), all = { ...met, states: [...wayOfWhy(known), ...known], depth };
+  const known = allMet(met.states, depth), way = wayOfWhy(known), all = { ...met, states: [...way, ...known], depth, isWithWhy: way.length > 0 };
   fill(byId('states'), answerTitle('Some outcomes'), ...openVerdict(known, metSentence(met, isStopped, known)), waysOn('outcomes', { isStopped }), ...statesSheet(all, null, truthsOf(all)));
 }

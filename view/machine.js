@@ -3,6 +3,7 @@
 // The machine: its cores with their buffers and caches, its bus and its memory. What the last step changed stands out.
 
 const MOST_LINES = 8; // of a program that are in sight at a time
+const FEW_LINES = 6; // the same of many cores in a low window
 const MOST_ROWS = 4; // of a cache that have room while they aren't there
 
 const marked = (name, isChanged) => (isChanged ? { class: `${name} changed` } : { class: name });
@@ -144,6 +145,7 @@ class CorePanel {
     const { programs, options } = history;
     this.core = core;
     this.program = programs[core];
+    this.isMany = programs.length > FEW_CORES;
     this.written = written[core];
     this.used = usedRegisters(history, core);
     this.named = inC(programs)?.names[core];
@@ -165,9 +167,10 @@ class CorePanel {
     const stall = (way, name) => html('button', { class: 'stall', 'data-stall': `${this.core}${name}`, hidden: '',
       'aria-label': `P${this.core}: record a ${way} that does nothing`, title: 'Records this choice in the run: nothing changes.' }, 'stall');
     this.stalls = { step: stall('step', 's'), drain: stall('drain', 'd') };
-    const isLong = this.program.length > MOST_LINES;
+    const isLong = this.program.length > MOST_LINES, isFew = this.isMany && this.program.length > FEW_LINES;
+    this.isScrolled = isLong || isFew;
     const named = { 'aria-label': `Program of P${this.core}`, ...(isLong ? { tabindex: 0 } : {}) };
-    this.list = html('ol', { class: isLong ? 'program long' : 'program', start: 0, ...named }, ...items);
+    this.list = html('ol', { class: isLong ? 'program long' : isFew ? 'program few' : 'program', start: 0, ...named }, ...items);
     for (const [name, texts] of [['--code', this.written], ['--c', items.map(({ dataset }) => dataset.c ?? '')]]) this.list.style.setProperty(name, Math.max(0, ...texts.map(text => text.length)));
     this.registers = list('registers', 'Registers', registerItems);
     this.buffer = list('buffer', 'Store buffer, the oldest store first', bufferItems);
@@ -193,7 +196,7 @@ class CorePanel {
     this.hasOffered = false;
     this.step.dataset.waits = hasEnded ? '' : waitsFor(this.program, core, this.depth);
     for (const way of ['step', 'drain']) {
-      const ended = way !== 'step' || !isFinished ? '' : core.buffer.length > 0 ? 'at its end' : 'finished', code = this[way].lastChild;
+      const ended = way !== 'step' || !isFinished ? '' : core.buffer.length > 0 ? 'done; stores wait' : 'done', code = this[way].lastChild;
       code.previousSibling.data = ended === '' ? ` ${way} ` : ` ${ended}`;
       putText(code, texts[way]);
       setAll(this[way], { 'aria-label': `P${this.core}: ${ended || `${way} ${texts[way]}`}` });
@@ -223,7 +226,7 @@ class CorePanel {
   }
 
   keepInSight() {
-    if (this.isOutOfSight && this.program.length > MOST_LINES) this.list.scrollTop = (this.place - 3) * this.list.firstElementChild.offsetHeight;
+    if (this.isOutOfSight && this.isScrolled) this.list.scrollTop = this.list.children[Math.max(0, this.place - 1)]?.offsetTop - this.list.firstElementChild.offsetTop;
     this.isOutOfSight = false;
   }
 }
@@ -246,10 +249,11 @@ function memoryItems(now, before, supply) {
   });
 }
 
-/** What accesses and the bus did in the first steps, counted: misses, upgrades, flushes, and write-backs where there are any. */
+/** What accesses and the bus did in the first steps, counted; in a lecture what comes in a run. */
 function tallyText(steps, count) {
-  const said = (isSo, one, many = `${one}s`) => (number => `${number} ${number === 1 ? one : many}`)(steps.slice(0, count).filter(isSo).length), backs = said(step => step.write_back, 'write-back');
-  return `so far ${said(({ access }) => access === 'miss', 'miss', 'misses')}, ${said(({ access }) => access === 'upgrade', 'upgrade')}, ${said(({ flush }) => flush, 'flush', 'flushes')}${/^0/.test(backs) ? '' : `, ${backs}`}`;
+  const isTold = (isSo, one) => one === 'flush' || (isLecture() ? drive.histories.some(history => history.steps.some(isSo)) : one !== 'write-back');
+  const said = (isSo, one, many = `${one}s`) => (number => (number > 0 || one === 'miss' || isTold(isSo, one) ? [`${number} ${number === 1 ? one : many}`] : []))(steps.slice(0, count).filter(isSo).length);
+  return (isLecture() ? '' : 'so far ') + [said(({ access }) => access === 'miss', 'miss', 'misses'), said(({ access }) => access === 'upgrade', 'upgrade'), said(({ flush }) => flush, 'flush', 'flushes'), said(step => step.write_back, 'write-back')].flat().join(', ');
 }
 
 /** A machine's panel. `show` shows it after so many steps of a history of it. */
@@ -266,8 +270,8 @@ class MachinePanel {
     this.element = html('section', { class: 'machine', 'aria-label': `The machine: ${machineName(history.options)}` },
       this.name, this.said, html('div', 'cores', ...this.panels.map(panel => panel.element)),
       html('div', 'below', html('div', 'of-caches', partTitle('Bus'), this.bus.element, this.tally), html('div', {}, partTitle('Memory'), this.memory.element)));
-    this.element.style.setProperty('--rows', Math.min(MOST_ROWS, Math.ceil(Object.keys(history.start.memory).length / history.options.words)));
     this.memory.element.style.setProperty('--pairs', Math.ceil(Object.keys(history.start.memory).length / 2));
+    putClass(this.element, 'tall', history.programs.flat().some(isLocked)); // boxes for three lines from the start
     this.element.style.setProperty('--lines', Math.min(MOST_LINES, Math.max(...history.programs.map(program => program.length)))); // so that parts stand at one height
   }
 
@@ -276,11 +280,20 @@ class MachinePanel {
     return JSON.stringify([asWritten(drive.test, programs), options]) === JSON.stringify([this.written, this.history.options]);
   }
 
+  /** Keeps room for lines in caches, in a lecture for those of the run, and for counts of two lines. */
+  keepRoom({ start, steps, options }) {
+    const isHall = isLecture(), had = [...new Set((isHall ? steps : []).flatMap(stateChanges).map(({ core, line }) => `${core} ${line}`))], most = Math.max(1, ...had.map(([core]) => had.filter(each => each[0] === core).length));
+    this.element.style.setProperty('--rows', isHall ? most : Math.min(MOST_ROWS, Math.ceil(Object.keys(start.memory).length / options.words)));
+    putClass(this.tally, 'long', isHall && tallyText(steps, steps.length).length > 24);
+  }
+
   /** Shows the machine after so many steps; where caches aren't shown (`isPlain`), as one that has none. */
   show(history, count, isPlain) {
     this.history = history;
-    const title = drive.histories.length > 2 ? history.options.protocol.toUpperCase() + asFirst(history, count) : machineTitle(history.options);
-    putText(this.name, isPlain ? `The machine, with ${plainMachineName(history.options)}` : title);
+    this.keepRoom(history);
+    const isNamed = drive.histories.length > 2 && !isPlain, same = isNamed ? asFirst(history, count) : '';
+    const title = isPlain ? `The machine, with ${plainMachineName(history.options)}` : isNamed ? history.options.protocol.toUpperCase() : machineTitle(history.options);
+    if (this.name.textContent !== title + same) fill(this.name, title, html('span', 'faint', same));
     const last = count <= history.steps.length ? history.steps[count - 1] : undefined;
     const now = history.machineAfter(count), before = last ? history.machineAfter(count - 1) : now;
     const had = isPlain ? [] : history.steps.slice(0, count).reverse().flatMap(stateChanges), changes = last ? stateChanges(last) : [], hasEnded = history.hasEnded(count), told = last ? supplyOf(last) : null, supply = isPlain ? plainSupply(told) : told;

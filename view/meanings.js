@@ -91,12 +91,12 @@ function isAtRest({ type, screenX: x, screenY: y }) {
   return rests;
 }
 
-const HEAVY = 9; // so many words count as much as a button or a buffer
+const HEAVY = 9; // so many words count as much as a button, a buffer or memory
 
 /** How high an explanation covers least: over its word, below it, or below what it names. */
 function heightOfMeaning(word, { offsetWidth: width, offsetHeight: height }) {
   const [{ left, top, bottom }, next] = [word, word.nextElementSibling ?? word].map(boxOf);
-  const taken = [...queryAll('button, .word, .buffer, .program code')].map(part => [boxOf(part), part.matches('button, .buffer') ? HEAVY : 1]);
+  const taken = [...queryAll('button, .word, .buffer, .below, .program code')].filter(part => part.checkVisibility()).map(part => [boxOf(part), part.matches('button, .buffer, .below') && !part.contains(word) ? HEAVY : 1]);
   const covered = y => taken.reduce((sum, [part, weight]) => sum + (part.left < left + width && part.right > left && part.top < y + height && part.bottom > y) * weight, 0);
   return [top - height - 4, bottom + 4, next.bottom + 4].filter(y => y >= 0 && y + height <= innerHeight).sort((one, other) => covered(one) - covered(other))[0] ?? 0;
 }

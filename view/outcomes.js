@@ -36,7 +36,7 @@ function readMet(text) {
 
 /** What a search met that has no end; `known` is what earlier ones met too. */
 function metSentence({ states, verdict, unfinished }, isStopped, known = states) {
-  const many = `${grouped(states.length)} of the outcomes`, kept = `${grouped(unfinished.states)} states`, more = known.length - states.length;
+  const many = `${grouped(states.length)} of the outcomes${states.length === 1000 ? ', the most that it follows' : ''}`, kept = `${grouped(unfinished.states)} states`, more = known.length - states.length;
   const earlier = more > 0 ? `, and earlier searches met ${grouped(more)} more` : '';
   const met = isStopped ? `The search was stopped. It met ${many} among its first ${kept}; later ones weren't told yet` : `The search kept ${kept}, its limit, and didn't end. It met ${many}`;
   return `${met}${earlier}. How many there are isn't known${isStopped ? '' : ': another limit can meet others'}.${decidedWords(known)}${verdictWords(verdict)}`;

@@ -108,7 +108,7 @@ function stepsArrows({ key, target }) {
 
 /** In a wide window the test's line is the first in the bar, for Tab too. */
 const wideBar = matchMedia('(min-width: 1000px)');
-const orderBar = () => (wideBar.matches ? byId('about').before(byId('bench')) : byId('folds').after(byId('bench')));
+const orderBar = () => (wideBar.matches ? byId('folds').before(byId('bench')) : byId('about').after(byId('bench')));
 
 /** Opens the list of keys, or closes it. */
 function toggleKeys() {
@@ -204,6 +204,7 @@ on(byId('skip'), 'click', event => {
 on(byId('speed'), 'input', () => setSpeed(Number(byId('speed').value)));
 on(byId('beside-it'), 'change', event => putBeside(event.target.value));
 on(byId('order-part'), 'toggle', showOrder);
+on(byId('legend'), 'toggle', () => drive.isOn && byId('legend').open && bringNear(query('.legend-box')));
 on(byId('report-part'), 'toggle', () => byId('report-part').open && showReport());
 
 on(byId('caches'), 'change', event => wantCaches(event.target.checked));

@@ -13,14 +13,14 @@ const GLYPH = 0.61; // the width of a letter of the fixed fonts, for a size of 1
 /** Where everything stands in a picture of at most this width, or as narrow as a lane may be. */
 function layoutOf({ cores, tracks, order, programs }, width) {
   const pitch = Math.min(TRACK.most, TRACK.room / Math.max(1, tracks));
-  const inner = INSET + tracks * pitch + 18;
+  const isWide = isLecture() && cores < 3, inner = INSET + tracks * pitch + (isWide ? 28 : 18); // a name over a bar has room
   const lane = Math.min(LANE.most, Math.max(inner + LANE.least + MARGIN, Math.floor((width - GUTTER - 2) / cores)));
   const left = core => GUTTER + core * lane;
   const rows = programs ? mostRows(programs) : order.length, row = rows <= FEW.rows && width >= FEW.width && !isLecture() ? Math.min(FEW.row, FEW.high / rows) : ROW;
   const top = moment => HEAD + moment * row;
   const box = Math.min(LANE.box, lane - inner - MARGIN), large = lane >= LANE.large;
   return {
-    tracks, pitch, lane, inner, left, top, row, label: large ? 17 : 15,
+    tracks, pitch, lane, inner, left, top, row, label: isWide ? 22 : large ? 17 : 15,
     width: GUTTER + cores * lane + 2, height: top(order.length) + 2,
     middle: entry => top(entry.index + 0.5),
     trackOf: store => left(store.core) + INSET + (store.track + 0.5) * pitch,
@@ -39,7 +39,7 @@ const textAt = (attributes, size, text) => svg('text', { 'text-anchor': 'middle'
 /** A text that is made smaller, and at last cut, so that it fits. */
 function fittingText(attributes, size, text, room) {
   const fitting = Math.max(Math.min(size, room / (text.length * GLYPH)), LEAST_FONT);
-  const letters = Math.floor(room / (fitting * GLYPH));
+  const letters = Math.floor(room / (fitting * GLYPH) + 0.01);
   return textAt(attributes, fitting, text.length <= letters ? text : text.slice(0, Math.max(1, letters - 1)) + '…');
 }
 
@@ -52,7 +52,7 @@ function labelOf(entry, letters) {
 }
 
 /** The letters of a note: larger in a lecture, and in wide lanes. */
-const noteFont = ({ label }) => 0.83 * label + (isLecture() ? 1.5 : 0);
+const noteFont = ({ label }) => Math.min(16, 0.83 * label + (isLecture() ? 1.5 : 0));
 
 /** What stands above an entry's label: its name, and what it passed as far as there is room. */
 function noteOf(entry, letters) {
@@ -87,15 +87,15 @@ function drawGrid(run, layout, entries) {
 /** Over the bar of a store that waits: its name, or its place beside other bars. */
 function nameOverBar({ tracks, trackOf, left }, store, top) {
   const isAlone = tracks < 2;
-  return isAlone ? textAt({ x: left(store.core) + 3, y: top + 13, 'text-anchor': 'start' }, NOTE_FONT, nameOf(store)) :
-    textAt({ class: 'faint', x: trackOf(store), y: top + 13 }, NOTE_FONT, String(store.place));
+  return isAlone ? textAt({ x: left(store.core) + 3, y: top + 16, 'text-anchor': 'start' }, NOTE_FONT, nameOf(store)) :
+    textAt({ class: 'faint', x: trackOf(store), y: top + 16 }, NOTE_FONT, String(store.place));
 }
 
 /** The bar of a store: dashed where it may have waited, full where it did; and its way to its entry. */
 function drawWait(run, layout, store) {
   const { earliest, latest } = store.wait;
   const { top, pitch } = layout;
-  const x = layout.trackOf(store), wide = Math.min(7, pitch * 0.7), head = pitch === TRACK.most ? 16 : 2;
+  const x = layout.trackOf(store), wide = Math.min(7, pitch * 0.7), head = pitch === TRACK.most ? 20 : 2;
   const bar = (kind, from, to) => svg('rect', { class: kind, x: x - wide / 2, y: from, width: wide, height: to - from });
   const way = `M${x} ${earliest < store.index ? top(store.index) : layout.middle(store)}V${layout.middle(store)}H${layout.boxOf(store).x}`;
   const parts = [svg('title', {}, sentenceOf(run, store)), svg('path', { class: 'leaving', d: way })];
@@ -105,7 +105,7 @@ function drawWait(run, layout, store) {
   return svg('g', { class: 'wait', 'data-earliest': earliest, 'data-latest': latest, 'data-seen': store.index }, ...parts);
 }
 
-/** From the write's box, or its bar, to the read's box. */
+/** From the write's box, or its bar, to the read's box; to the next core beside the lanes' border, through the room right of the left core's boxes. */
 function arrowPath(layout, source, read) {
   const from = sidesOf(layout, source), to = sidesOf(layout, read);
   const start = layout.middle(source), end = layout.middle(read);
@@ -113,6 +113,10 @@ function arrowPath(layout, source, read) {
   const isAhead = source.core < read.core;
   const x1 = isAhead || source.core === read.core ? from.right : from.left;
   const x2 = isAhead ? to.left - 2 : to.right + 2;
+  if (Math.abs(source.core - read.core) === 1) {
+    const border = layout.left(Math.max(source.core, read.core)), edge = Math.min(x1, x2), amid = edge + Math.max(22, (border - edge) / 2), turn = (8 * amid - x1 - x2) / 6; // half way it is there, beside the marks of initial values
+    return `M${x1} ${start}C${turn} ${start} ${turn} ${end} ${x2} ${end}`;
+  }
   const bend = source.core === read.core ? 26 : Math.max(40, Math.abs(x2 - x1) / 2);
   const toRight = x1 === from.right ? bend : -bend, toLeft = isAhead ? -bend : bend;
   return `M${x1} ${start}C${x1 + toRight} ${start} ${x2 + toLeft} ${end} ${x2} ${end}`;
@@ -124,16 +128,22 @@ function drawSource(run, layout, read) {
   const arrow = (d, data) => svg('path', { class: 'arrow', d, 'marker-end': 'url(#point)', ...data }, title);
   if (source) return arrow(arrowPath(layout, source, read), { 'data-from': source.index, 'data-to': read.index });
   const { right } = sidesOf(layout, read), y = layout.middle(read);
-  return svg('g', { 'data-initial': read.index }, arrow(`M${right + 17} ${y}H${right + 2}`, {}),
-    svg('circle', { class: 'initial', cx: right + 17, cy: y, r: 5 }));
+  return svg('g', { 'data-initial': read.index }, arrow(`M${right + 13} ${y}H${right + 2}`, {}),
+    svg('circle', { class: 'initial', cx: right + 13, cy: y, r: 4 }));
+}
+
+/** A line of an instruction in a picture of why; a fence is a bar there too. */
+function drawCode(text, line, place, room) {
+  const isFence = text === 'MFENCE', code = fittingText({ ...place, ...(isFence ? {} : { class: 'faint over' }) }, EVENTS.type, line, room);
+  return isFence ? svg('g', 'fence', svg('rect', { x: place.x - room / 2, y: place.y - 17, width: room, height: 23 }), code) : code;
 }
 
 function drawFence(run, layout, entry) {
-  const y = layout.middle(entry), left = layout.left(entry.core);
+  const y = layout.middle(entry), { x: left, width } = layout.boxOf(entry), half = layout.label > 17 ? 19 : 11; // arrows have room beside it
   return svg('g', { class: 'fence', 'data-entry': entry.index },
     svg('title', {}, sentenceOf(run, entry)),
-    svg('rect', { x: left + 3, y: y - 11, width: layout.lane - 6, height: 22 }),
-    textAt({ x: left + layout.lane / 2, y: y + 5 }, layout.label - 1, `${nameOf(entry)} F fence`));
+    svg('rect', { x: left, y: y - half, width, height: 2 * half }),
+    textAt({ x: left + width / 2, y: y + half / 3 + 1 }, layout.label - 1, nameOf(entry) + (width < 12 * GLYPH * layout.label ? ' F' : ' F fence')));
 }
 
 function drawEntry(run, layout, entry) {
@@ -146,8 +156,8 @@ function drawEntry(run, layout, entry) {
   return svg('g', { class: kind, 'data-entry': entry.index, 'data-passed': passed.map(store => store.index).join(' ') },
     svg('title', {}, sentenceOf(run, entry)),
     svg('rect', { ...box, rx: isRead(entry) ? 16 : 2 }),
-    fittingText({ class: 'note', x, y: box.y + 0.4 * box.height }, font, noteOf(entry, Math.floor(noted / (Math.min(WORDY, font) * GLYPH))), noted),
-    fittingText({ x, y: box.y + 0.8 * box.height }, layout.label, labelOf(entry, letters), room));
+    fittingText({ class: 'note', x, y: box.y + 0.38 * box.height }, font, noteOf(entry, Math.floor(noted / (Math.min(WORDY, font) * GLYPH))), noted),
+    fittingText({ x, y: box.y + 0.84 * box.height }, layout.label, labelOf(entry, letters), room));
 }
 
 function drawFrame(layout, load) {

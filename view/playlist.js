@@ -7,11 +7,10 @@
 const playlist = { at: -1, said: null, where: '', isFromBehind: false, left: new WeakMap() };
 
 const UNSAVED = ' Closing this tab loses the lecture: save it as a page.';
-const LIST_END = 'The end of the lecture';
 const MOST_NAME = 80; // characters of an entry's name
 const MOST_LISTED = 400000; // characters of a list that the browser keeps
 
-const TITLES = { SB: 'Store buffering', SBF: 'Store buffering with fences', MP: 'Message passing', LB: 'Load buffering', 'false-sharing': 'False sharing' };
+const TITLES = { SB: 'Store buffering', SBF: 'Store buffering with fences', MP: 'Message passing', LB: 'Load buffering', 'false-sharing': 'False sharing', 'false-sharing-loads': 'False sharing, loads first' };
 
 /** What an entry is, beside its test's name: what is asked, or whether choices are known, and how many machines stand abreast. */
 function entryKind() {
@@ -28,28 +27,39 @@ function ownNameOf({ name, address = '' }) {
   return address === '' || (first === (TITLES[test] ?? test) && /^(the (run|test)(, (four protocols|two machines))?|[a-z]+)$/.test(kind)) ? '' : name;
 }
 
-const isUnstepped = () => currentCommand() === 'run' && drive.isOn && drive.words.length === 0 && !isExercise();
-
 /** Gives a test without choices those of the library, so that a lecture steps it. */
 function takeKnownChoices() {
-  const known = isUnstepped() && LIBRARY.map(({ text }) => partsOf(text)).find(({ test, rest }) => test === testNow() && /^\d/.test(rest));
+  const known = drive.isOn && drive.words.length === 0 && !isExercise() && LIBRARY.map(({ text }) => partsOf(text)).find(({ test, rest }) => test === testNow() && /^\d/.test(rest));
   if (!known) return;
   putChoices(known.rest.trim());
   answerNow();
   goTo(0);
-  return choicesSaid(drive.words.length);
 }
 
-function addToList(before = taught.list.length) {
-  const known = takeKnownChoices(), one = entryNow(), at = taught.list.findIndex(({ address }) => address === one.address), isThere = at >= 0;
+/** Adds what is shown, and of a run what is made. */
+function addToList(before = taught.list.length, name) {
+  takeKnownChoices();
+  const { isOn, count, words } = drive;
+  if (isOn && count % words.length > 0) takeBranch({ words: words.slice(0, count), count });
+  const one = Object.assign(entryNow(), name && { name }), at = taught.list.findIndex(({ address }) => address === one.address), isThere = at >= 0;
   if (!isThere && taught.list.length >= MOST_TAUGHT.tests) return sayListed(`The lecture has ${MOST_TAUGHT.tests} entries, and takes no more.`);
   if (!isThere) taught.list = taught.list.toSpliced(before, 0, one);
   playlist.at = isThere ? at : before;
   drawList();
-  const steps = known ? ` The page put in its run of ${known}.` : isUnstepped() ? ' No choices to step.' : '';
-  sayListed(`${isThere ? 'It is there already, as' : 'Added as'} ${playlist.at + 1}: ${one.name}.${steps}${taught.list === playlist.saved ? '' : UNSAVED}`);
-  bringNear(byId('list-part'));
-  if (currentCommand() === 'why' && !isListed('run')) query('#way-back .listed').append(' ', listButton({ 'data-add-run': '', class: 'main' }, 'Add the run too'));
+  sayListed(`${isThere ? 'It is there already, as' : 'Added as'} ${playlist.at + 1}: ${one.name}.${isOn ? ` ${choicesSaid(drive.words.length)} to step.` : ''}${isSaved() ? '' : UNSAVED}`);
+  query(byId('way-back').hidden ? '#listed' : '#way-back .listed').append(...offersNow().flatMap(each => [' ', each]));
+  drawBar();
+}
+
+/** What goes with what was added. */
+const offersNow = () => (currentCommand() === 'why' && !isListed('run') ? [listButton({ 'data-add-run': '', class: 'main' }, 'Add the run too')]
+  : drive.beside === ABREAST && valueOf('words') > 1 ? [listButton({ 'data-add-padded': '' }, 'Add also: one word a line')] : []);
+
+const isSaved = () => playlist.saved === taughtNow();
+
+function addPadded() {
+  openTest(withoutPlace(currentAddress()).replace(/&words=\d+/, '&at=0'));
+  addToList(playlist.at + 1, entryNow().name.replace(/:.*/, ', one word a line'));
 }
 
 /** Whether an entry has a test, with this command. */
@@ -67,8 +77,8 @@ function addRun() {
 }
 
 function updateListed() {
-  const { list } = taught, { at } = playlist, one = entryNow();
-  taught.list = list.with(at, { ...one, name: ownNameOf(list[at]) || one.name });
+  const entry = taught.list[playlist.at], one = entryNow();
+  Object.assign(entry, one, { name: ownNameOf(entry) || one.name });
   drawList();
   sayListed(`It is ${playlist.at + 1} of ${taught.list.length} now.`);
 }
@@ -108,13 +118,13 @@ function followShown() {
 }
 
 /** What the browser keeps for a reload: the list, which of it is shown, and whether in a lecture. */
-const listToKeep = () => ({ list: JSON.stringify(taught.list).length <= MOST_LISTED ? taught.list : [], listed: playlist.at, isLecture: isLecture() });
+const listToKeep = () => ({ name: taught.name, list: JSON.stringify(taught.list).length <= MOST_LISTED ? taught.list : [], listed: playlist.at, isLecture: isLecture() });
 
 const keepList = () => window.history.replaceState({ ...window.history.state, ...listToKeep() }, '');
 
 /** Takes the kept list after a reload, and goes on with the lecture, if there was one. */
-function takeKeptList({ list, listed, isLecture: wasLecture }) {
-  if (Array.isArray(list) && list.length > 0) tryTaught(JSON.stringify({ list }), () => {});
+function takeKeptList({ list, name, listed, isLecture: wasLecture }) {
+  if (Array.isArray(list) && list.length > 0) tryTaught(JSON.stringify({ list, name }), () => {});
   if (Number.isInteger(listed)) playlist.at = Math.min(Math.max(-1, listed), taught.list.length - 1);
   if (wasLecture === true) putLecture(true);
   drawList();
@@ -166,6 +176,7 @@ function whereInList() {
   const { list } = taught, { at } = playlist, place = `${at + 1} of ${list.length}`, all = manyEntries(list);
   if (lastLecture.isJust && isOfEntry(false)) return 'PageDown goes on with the lecture';
   if (at < 0) return all;
+  if (playlist.said !== null) return byId('listed').textContent.split('. ')[0];
   if (isOfEntry()) return `${place}${isToUpdate() ? ', changed' : ''}: ${list[at].name}`;
   const isThere = isListed(currentCommand());
   if (isOfEntry(false)) return `${isThere ? place : 'Not in the lecture yet'}: ${plainName(list[at])}, ${currentCommand()}`;
@@ -174,7 +185,7 @@ function whereInList() {
 
 const plainName = entry => ownNameOf(entry) || entry.name.split(':')[0];
 
-const listFile = kind => fileName(`${kind}-${plainName(taught.list[0]).toLowerCase()}`, '.html');
+const listFile = kind => fileName(`${kind}-${taught.name || plainName(taught.list[0])}`.toLowerCase(), '.html');
 
 /** The bar over the machine: which entry is shown, and the ways to the ones before and after. In a lecture the foot, whose names tell no answer. */
 function drawBar() {
@@ -182,31 +193,34 @@ function drawBar() {
   byId('list-bar').hidden = list.length === 0 && !isLecture();
   if (isLecture()) return drawFoot();
   playlist.where = whereInList();
-  const next = !isEnd ? `Next: ${list[at + 1].name} ▶` : at > 0 ? LIST_END : 'Next ▶', isOther = list[at] !== undefined && !isOfEntry(false), isOut = at >= 0 && !isOfEntry(isEnd);
-  fill(byId('list-bar'), isOther ? listButton({ 'data-listed': at }, `◀ ${list[at].name}`) : listButton({ 'data-listed': at - 1 }, '◀ Previous', at <= 0), html('span', {}, playlist.where),
-    ...(isToUpdate() ? [listButton({ 'data-update-list': '' }, `Update ${at + 1} of ${list.length}`)] : []), ...(isOut ? [] : [listButton({ 'data-listed': at + 1 }, next, isEnd)]));
+  const next = !isEnd ? `Next: ${list[at + 1].name} ▶` : at > 0 ? 'The end of the lecture' : 'Next ▶', isOther = list[at] !== undefined && !isOfEntry(false), isOut = at >= 0 && !isOfEntry(isEnd);
+  fill(byId('list-bar'), isOther ? listButton({ 'data-listed': at }, `◀ ${list[at].name}`) : listButton({ 'data-listed': at - 1 }, '◀ Previous', at <= 0), html('span', {}, playlist.where), ...(playlist.said === null ? [] : offersNow()),
+    ...(isToUpdate() ? [listButton({ 'data-update-list': '' }, `Update ${at + 1} of ${list.length}`)] : []), ...(isOut ? [] : [listButton({ 'data-listed': at + 1 }, next, isEnd)]),
+    ...(isListed() ? [] : [listButton({ 'data-add-to-list': '' }, 'Add to the lecture')]), ...(at > 0 && isOfEntry() ? [listButton({ 'data-start': at }, `Start at entry ${at + 1}`)] : []));
 }
 
 function drawFoot() {
   const entries = toGoThrough(), { length } = taught.list, way = (at, text) => (entries[at] ? listButton({ 'data-listed': at, class: 'quiet' }, text) : html('i', {}));
   playlist.where = footSaid();
-  fill(byId('list-bar'), way(placeBefore(), '◀ Previous'), listButton({ 'data-onward': '', class: 'quiet' }, playlist.where, !onward()), way(placeNow() + 1, 'Next ▶'));
-  setAll(byId('asked-line'), { 'data-place': length > 1 && isOfEntry(false) ? `${playlist.at + 1} of ${length}` : '' });
+  fill(byId('list-bar'), way(placeBefore(), '◀ Previous'), listButton({ 'data-onward': '', class: lastLecture.isAsked ? 'quiet main' : 'quiet' }, playlist.where, !onward()), way(placeNow() + 1, 'Next ▶'));
+  setAll(byId('asked-line'), { 'data-place': length > 1 && isOfEntry(false) ? [`${playlist.at + 1} of ${length}`, taught.name].filter(Boolean).join(' · ') : '' });
 }
 
 function drawList() {
   drawOfList();
   const way = (name, each, label, text, isOff) => [' ', listButton({ [`data-${name}`]: each, class: 'quiet', 'aria-label': label }, text, isOff)];
-  fill(byId('list'), ...taught.list.map(({ name, address }, each, { length }) => html('li', {}, listButton({ 'data-listed': each, class: 'quiet' }, name),
+  fill(byId('list'), ...taught.list.map(({ name, address, noReason }, each, { length }) => html('li', {}, listButton({ 'data-listed': each, class: 'quiet' }, name),
     ...way('raised', each, `Move ${name} up`, 'up', each === 0), ...way('raised', each + 1, `Move ${name} down`, 'down', each === length - 1),
-    ...way('renamed', each, `Rename ${name}: in a lecture that is the headline`, 'rename'), ...way('unlisted', each, `Take ${name} off the lecture`, 'take off'), html('span', 'faint', hasReasonAfter(address) ? ' then its reason, by arrows' : ''))));
+    ...way('renamed', each, `Rename ${name}: in a lecture that is the headline`, 'rename'), ...way('unlisted', each, `Take ${name} off the lecture`, 'take off'), ...aboutRun(new URLSearchParams(address), each, !noReason))));
 }
 
-/** Whether the reason follows a run of the list, as `isWhyNext` has it. */
-function hasReasonAfter(address) {
-  const told = new URLSearchParams(address), test = told.get('test') ?? '';
-  return commandOf(told.get('command')) === 'run' && quantifierOf(test) !== null && !told.has('beside') &&
+/** How far a run of the list goes, and whether its reason follows, where `isWhyNext` allows. */
+function aboutRun(told, each, isOn) {
+  const test = told.get('test'), tick = html('input', { type: 'checkbox', 'data-reason': each });
+  tick.checked = isOn;
+  const hasReason = quantifierOf(test) !== null && !told.has('beside') &&
     !(told.has('caches') ? told.get('caches') === '1' : SETTINGS_OF_CACHES.some(name => told.has(name))) && !isListed('why', test);
+  return told.has('command') ? [] : [` ${choicesSaid(countChoices(told.get('choices') ?? ''))} `, ...(hasReason ? [html('label', {}, tick, ' with its reason, by arrows')] : [])];
 }
 
 function drawOfList() {
@@ -214,9 +228,11 @@ function drawOfList() {
   sayListed('');
   const { list } = taught;
   byId('list-part').hidden = list.length === 0;
+  byId('list-name').value = taught.name;
   sayList();
   queryAll('[data-lecture]').forEach(nameLecture);
   byId('save-exercises').hidden = list.length < 2;
+  for (const button of queryAll('[data-add-to-list]')) putText(button, `Add to ${list.length > 0 ? 'the' : 'a'} lecture`);
   for (const button of queryAll('[data-save=page]')) putText(button, `Save ${list.length < 2 ? '' : 'the lecture '}as a page`);
   drawBar();
   followShown();
@@ -226,15 +242,14 @@ const manyEntries = ({ length }) => `${length} ${length === 1 ? 'entry' : 'entri
 
 /** Over the list how much is in it, below it whether it is saved. */
 function sayList() {
-  const { list } = taught;
-  putText(byId('list-said'), `Lecture: ${manyEntries(list)}`);
-  putText(byId('list-kept'), list === playlist.saved ? 'Saved. After a change save it again:' : 'Closing this tab loses the lecture:');
+  putText(byId('list-said'), `Lecture: ${manyEntries(taught.list)}`);
+  putText(byId('list-kept'), isSaved() ? 'Saved. After a change save it again:' : `Closing this tab loses ${playlist.saved ? 'the changes' : 'the lecture'}:`);
 }
 
 /** Puts a field in the place of an entry's name until it is left; the other buttons stay, for who presses one then. */
 function renameListed(at) {
-  const item = byId('list').children[at], { name: old } = taught.list[at];
-  const field = html('input', { type: 'text', inputmode: 'text', maxlength: MOST_NAME, 'aria-label': 'Name in the lecture', 'data-name-of': at });
+  const item = byId('list').children[at], entry = taught.list[at], old = entry.name;
+  const field = html('input', { type: 'text', inputmode: 'text', maxlength: MOST_NAME, 'aria-label': 'Name in the lecture' });
   const limit = html('div', { role: 'status' });
   field.value = old;
   item.firstElementChild.replaceWith(field);
@@ -244,10 +259,9 @@ function renameListed(at) {
   on(field, 'input', () => putText(limit, field.value.length < MOST_NAME ? '' : `${MOST_NAME} letters at most.`));
   on(field, 'blur', () => {
     limit.remove();
-    const name = field.value.trim() || old;
-    taught.list = taught.list.with(at, { ...taught.list[at], name });
-    for (const each of item.querySelectorAll('button')) each.ariaLabel = each.ariaLabel.replace(old, () => name);
-    field.replaceWith(listButton({ 'data-listed': at, class: 'quiet' }, name));
+    entry.name = field.value.trim() || old;
+    for (const each of item.querySelectorAll('button')) each.ariaLabel = each.ariaLabel.replace(old, () => entry.name);
+    field.replaceWith(listButton({ 'data-listed': at, class: 'quiet' }, entry.name));
     drawOfList();
   });
   on(field, 'keydown', event => {
@@ -260,6 +274,11 @@ function renameListed(at) {
   });
 }
 
+on(byId('list-part'), 'change', ({ target: { id, dataset: { reason }, value, checked } }) => {
+  if (id) taught.name = value.trim();
+  else if (reason) taught.list[reason].noReason = !checked;
+  drawOfList();
+});
 on(byId('list-part'), 'toggle', ({ target }) => target.open && bringNear(target));
 
 function foldList() {
@@ -267,13 +286,11 @@ function foldList() {
   byId('list-part').open = false;
 }
 
-on(document, 'click', ({ target }) => {
-  const { listed, unlisted, raised, renamed } = target.dataset ?? {};
-  if (listed !== undefined) openListed(Number(listed));
-  else if (raised !== undefined) raiseInList(Number(raised));
-  else if (renamed !== undefined) renameListed(Number(renamed));
-  else if (unlisted !== undefined) dropFromList(Number(unlisted));
-  else if (target.matches('[data-add-to-list]')) addToList();
-  else if (target.matches('[data-add-run]')) addRun();
-  else if (target.matches('[data-update-list]')) updateListed();
+/** What buttons do, by their data: some with an entry's number. */
+const LIST_ACTS = { listed: openListed, raised: raiseInList, renamed: renameListed, unlisted: dropFromList, addToList, addRun, addPadded, updateList: updateListed };
+
+on(document, 'click', ({ target, target: { dataset = {} } }) => {
+  const name = Object.keys(LIST_ACTS).find(each => each in dataset), isAtBar = target.closest?.('#list-bar');
+  if (name) LIST_ACTS[name](...(dataset[name] ? [Number(dataset[name])] : []));
+  if (name?.startsWith('add') && !isAtBar) bringNear(byId('list-part'));
 });

@@ -5,9 +5,9 @@
 const POSSIBLE_CASES = 3000; // that may be told apart: so many take well under a second
 const ASK_AFTER = 250; // milliseconds without another test
 
-/** What is known of a test: whether what it asks for can be, or null; whether that is still to come; the test of which a sheet said that it can't
+/** What is known of a test: whether what it asks for can be, or null; the test of which the reader was told that it can be (`told`), or that it can't
  * (`refuted`), and the run that why found last (`way`). */
-const possible = { test: null, can: null, isAsked: false, timer: null, task: null, refuted: null, way: null };
+const possible = { test: null, can: null, timer: null, task: null, told: null, refuted: null, way: null };
 
 /** Notes what `why` answered, with the run that it found. */
 function noteAnswer(test, { answer, choices, values, asked: sought }) {
@@ -21,16 +21,17 @@ const isBeforeAnswer = () => isOfEntry() && taught.list.slice(playlist.at + 1).s
 /** Whether an answer said that what the test that is driven asks for can't be; an exercise that isn't answered keeps it to itself. */
 const isRefuted = () => possible.refuted === drive.test && !isUnanswered() && !isBeforeAnswer();
 
-const canBe = () => (possible.test === drive.test ? possible.can : null);
+/** Whether the reader knows that it can be: the page opens with such a task. Of any other test its words don't tell it. */
+const isKnownToBe = () => (isFirstDriven() || possible.told === drive.test) && !isBeforeAnswer();
+const isFirstDriven = () => drive.test === partsOf(EXAMPLES[FIRST_TEXT]).test;
 
 /** Asks soon about the test that is driven, where nothing is known of it yet. */
 function askPossibleSoon() {
   if (possible.test === drive.test || !query('#commands [value=why]')) return;
-  const isFirst = drive.test === partsOf(EXAMPLES[FIRST_TEXT]).test; // which can be, as a row of the tests asks: so the page opens with its task
   possible.task?.stop();
-  Object.assign(possible, { test: drive.test, can: isFirst || null, isAsked: !isFirst, task: null });
+  Object.assign(possible, { test: drive.test, can: isFirstDriven() || null, task: null }); // as a row of the tests asks
   clearTimeout(possible.timer);
-  if (!isFirst) possible.timer = setTimeout(askPossible, ASK_AFTER);
+  if (!isFirstDriven()) possible.timer = setTimeout(askPossible, ASK_AFTER);
 }
 
 async function askPossible() {
@@ -40,8 +41,6 @@ async function askPossible() {
     if (possible.task !== task) return;
     noteAnswer(test, status === GOOD ? JSON.parse(text) : {});
   } catch {
-    possible.can = null; // the task stays a question
+    possible.can = null;
   }
-  possible.isAsked = false;
-  if (drive.isOn && drive.test === test) showTask(firstHistory(), drive.count, shown.run);
 }

@@ -6,37 +6,29 @@ const MODEL_NAMES = { tso: 'x86-TSO', sc: 'sequential consistency' };
 const DEPTH_OF = { tso: 32, sc: 0 }; // of the buffers on which an execution's choices are run
 const FEW_LEAVES = 16; // up to so many all cases are open at first
 
-/** What is asked for, as a noun; `proposition` is the condition's text, with its quantifier. */
-function askedWords({ asked, model }, proposition) {
-  if (asked === null) return `an execution of ${MODEL_NAMES[model]}`;
-  const said = proposition.replace(/^\s*(?:~\s*exists|exists|forall)\s*/, '');
-  return `an execution of ${MODEL_NAMES[model]} in which ${said} is ${asked.truth}`;
+/** What an answer comes to, in sentences; `proposition` is the condition's text, with its quantifier. */
+function reasonSentence({ asked, model, answer, leaves, verdict }, proposition) {
+  const end = asked === null ? '' : ` in which ${proposition.replace(/^\s*(?:~\s*exists|exists|forall)\s*/, '')} is ${asked.truth}`;
+  const found = answer === 'allowed' ? 'One is shown here.' : `There is none: ${leaves === 1 ? 'the one case ends' : `each of the ${leaves} cases ends`} in a contradiction.`;
+  return `Asked: an execution of ${MODEL_NAMES[model]}${end}. ${found}${verdictWords(verdict)}`;
 }
 
-/** What an answer comes to, in sentences. */
-function reasonSentence(told, proposition) {
-  const asked = askedWords(told, proposition);
-  const cases = told.leaves === 1 ? 'the one case ends' : `each of the ${told.leaves} cases ends`;
-  const ways = { never: () => `There is none: ${cases} in a contradiction.`, allowed: () => 'One is shown here.' };
-  return `Asked: ${asked}. ${ways[told.answer]()}${verdictWords(told.verdict)}`;
-}
-
-/** Herd's word on the whole condition, where there is one; empty where the test has none. */
+/** Herd's word on the whole condition; empty where the test has none. */
 function verdictWords(verdict) {
-  if (verdict === null || verdict === undefined) return '';
+  if (!verdict) return '';
   const claim = { '~exists': 'no run ends', forall: 'each run ends' }[quantifierOf(testNow())] ?? 'a run ends';
   return ` Verdict ${verdict}: the test claims that ${claim} so, which is ${verdict === 'Ok' ? 'true' : 'false'}.`;
 }
 
 const sourceText = source => (source === 'initial' ? 'the initial value' : `what ${source} writes`);
-const eitherOf = words => (words.length < 2 ? words.join('') : `${words.slice(0, -1).join(', ')} or ${words.at(-1)}`);
+const eitherOf = words => listed(words, 'or');
 
 /** What is left for the places of a proposition that can't hold. */
 function falseSentence(places) {
   const bare = places.filter(([, words]) => words.length === 0).map(([place]) => placeName(place));
   if (bare.length > 0) return `It can't be: no word is left that ${eitherOf(bare)} could have at the end.`;
   const ends = places.map(([place, words]) => `${placeName(place)} ends as ${eitherOf(words.map(String))}`);
-  return `Then ${places.length === 0 ? 'whatever is left' : listed(ends)}, which isn't what ${isClaim(sheet.test) ? 'a counterexample needs' : 'is asked for'}.`;
+  return `Then ${listed(ends) || 'whatever is left'}, which isn't what ${isClaim(sheet.test) ? 'a counterexample needs' : 'is asked for'}.`;
 }
 
 const EVENT_FORM = 'P\\d:\\d+ (?:LR|LW|R|W) \\w+(?:=\\d+)?';
@@ -67,7 +59,7 @@ const CLOSING_SENTENCES = {
   uniproc: ({ cycle }) => `It can't be: among the accesses to one location, ${eventWords(cycle[0].from)} would be before itself.`,
   between: ({ between, read }) => `It can't be: ${between} would come between the two parts of the locked instruction ${read.split(' ')[0]}.`,
   false: ({ places }) => falseSentence(Object.entries(places)),
-  none: step => (Object.hasOwn(NO_ANSWERS, step.question) ? `It can't be: ${NO_ANSWERS[step.question](step.of)}.` : plainStep(step)),
+  none: ({ question, of }) => `It can't be: ${NO_ANSWERS[question](of)}.`,
   lemma: ({ lemma }) => `It can't be, by lemma ${lemma}.`,
 };
 
@@ -81,13 +73,12 @@ const NO_ANSWERS = {
 
 /** What a step of a reason says. */
 const STEP_SENTENCES = {
-  case: step => (step.answers ? `${caseWords(step.answers)}${step.closing ? `: ${lowered(closingSentence(step.closing))}` : ''}` : step.read ? `If ${step.read} reads ${eitherOf(step.from.map(sourceText))}` : `If ${step.first} reaches memory before ${step.second}`),
-  so: step => (step.answers ? `So ${answersWords(step.answers)}${step.closing ? `: ${lowered(closingSentence(step.closing))}` : '.'}` : step.read ? `So ${step.read} reads ${eitherOf(step.from.map(sourceText))}.` : `So ${step.first} reaches memory before ${step.second}.`),
+  case: ({ answers, closing }) => `${caseWords(answers)}${closing ? `: ${lowered(closingSentence(closing))}` : ''}`,
+  so: ({ answers, closing }) => `So ${answersWords(answers)}${closing ? `: ${lowered(closingSentence(closing))}` : '.'}`,
   endcases: () => 'No other case is left.',
   given: ({ facts }) => `Asked for: ${listed(facts.map(factWords))}.`,
   never: ({ lemma, facts }) => `Lemma ${lemma}: it can't be that ${listed(facts.map(factWords))}.`,
   leaf: ({ closing }) => closingSentence(closing),
-  ...CLOSING_SENTENCES,
 };
 
 const factForm = form => new RegExp(`^${form.replaceAll('EVENT', EVENT_FORM)}$`);
@@ -103,11 +94,8 @@ const FACTS = [
 
 /** A fact in words. */
 function factWords(text) {
-  for (const [form, words] of FACTS) {
-    const found = form.exec(text);
-    if (found) return words(...found.slice(1));
-  }
-  return `${text} is true`;
+  const [form, words] = FACTS.find(([each]) => each.test(text)) ?? [];
+  return form ? words(...form.exec(text).slice(1)) : `${text} is true`;
 }
 
 /** Answers to a question in words: one of these, each all of its facts. */
@@ -131,65 +119,58 @@ const placeName = place => place.replace(/^(\d):(\w+)$/, 'P$1\'s $2');
 
 /** A step of a newer module: its name and what it holds. */
 const plainStep = ({ step: name, depth, ...held }) => `${name}: ${Object.values(held).map(value => (typeof value === 'string' ? value : JSON.stringify(value))).join(' ')}`;
-const sentenceBy = (sentences, step) => (Object.hasOwn(sentences, step.step) ? sentences[step.step](step) : plainStep(step));
+const sentenceBy = (sentences, step) => sentences[step.step]?.(step) ?? plainStep(step);
 const stepSentence = step => sentenceBy(STEP_SENTENCES, step).replace(new RegExp(EVENT_FORM, 'g'), eventWords);
 const closingSentence = closing => sentenceBy(CLOSING_SENTENCES, closing);
-
-/** What closes the case of a step: it stands in the step, or is the step. */
-const closingOf = step => step.closing ?? step;
-const hasPart = step => step.step === 'never' || (step.step === 'case' && !step.closing);
 
 /** The steps as a tree: a lemma, and a case that its line doesn't close, have in `parts` what is told of them. */
 function treeOf(steps) {
   const roots = [], open = [roots]; // `open[depth]` takes what comes at this depth
   for (const step of steps) {
-    const node = hasPart(step) ? { step, parts: [] } : { step }, depth = step.depth ?? 0;
+    const hasPart = step.step === 'never' || (step.step === 'case' && !step.closing), node = hasPart ? { step, parts: [] } : { step }, depth = step.depth ?? 0;
     open.length = depth + 1;
     open[depth].push(node);
-    if (node.parts) open.push(node.parts);
+    if (hasPart) open.push(node.parts);
   }
   return roots;
 }
 
 /** The cycles of a reason, each with the number of its step. */
-const cyclesOf = steps => steps.map((step, at) => ({ cycle: closingOf(step).cycle, at })).filter(({ cycle }) => cycle !== undefined);
+const cyclesOf = steps => steps.map(({ closing }, at) => ({ cycle: closing?.cycle, at })).filter(({ cycle }) => cycle);
 
 /** A tree as nested lists, of which each case folds. A cycle has a button that draws it. */
 function treeList(nodes, steps, isOpen) {
   return html('ul', 'cases', ...nodes.map(({ step, parts }) => {
     if (parts) return html('li', {}, html('details', isOpen ? { open: '' } : {}, html('summary', {}, stepSentence(step)), treeList(parts, steps, isOpen)));
     const at = steps.indexOf(step);
-    const draw = closingOf(step).cycle ? [' ', html('button', { 'data-cycle': at, 'aria-pressed': 'false' }, 'Draw it')] : [];
+    const draw = step.closing?.cycle ? [' ', html('button', { 'data-cycle': at, 'aria-pressed': 'false' }, 'Draw it')] : [];
     return html('li', { class: `step-${step.step}`, 'data-step': at }, stepSentence(step), ...draw);
   }));
 }
 
 /** The edges that an execution's sources and coherence tell; after a read come the writes that overwrite what it returned. */
 function edgesOf({ sources, coherence }) {
-  const writes = Object.values(coherence), locationOf = text => eventOf(text).location;
-  const order = writes.flatMap(each => each.slice(1).map((to, at) => ({ from: each[at], relation: 'co', to })));
+  const order = Object.values(coherence).flatMap(each => each.slice(1).map((to, at) => ({ from: each[at], relation: 'co', to })));
   const reads = sources.flatMap(({ read, write }) => {
-    const own = coherence[locationOf(read)] ?? [], next = write === 'initial' ? own[0] : own[own.indexOf(write) + 1];
-    const isOwn = next !== undefined && eventOf(next).core === eventOf(read).core && eventOf(next).place === eventOf(read).place;
+    const own = coherence[eventOf(read).location] ?? [], next = write === 'initial' ? own[0] : own[own.indexOf(write) + 1];
+    const isOwn = next?.split(' ')[0] === read.split(' ')[0];
     return [...(write === 'initial' ? [] : [{ from: write, relation: 'rf', to: read }]), ...(next === undefined || isOwn ? [] : [{ from: read, relation: 'fr', to: next }])];
   });
   return [...order, ...reads];
 }
 
-const LOCKED = /^LOCK\b|^XCHG\b.*\[/i;
-
 /** By which relation an event is before a later one of its core: `unkept` where nothing keeps a store before a load. */
 function orderInProgram(from, to, programs) {
   if (!['W', 'LW'].includes(from.kind) || !['R', 'LR'].includes(to.kind)) return 'po';
   const between = programs[from.core].slice(from.place + 1, to.place);
-  if (from.kind === 'LW' || to.kind === 'LR' || between.some(text => LOCKED.test(text))) return 'implied';
+  if (from.kind === 'LW' || to.kind === 'LR' || between.some(isLocked)) return 'implied';
   if (between.some(text => /^MFENCE\b/i.test(text))) return 'mfence';
   return from.location === to.location ? 'po' : 'unkept';
 }
 
 /** The edges of program order between the events of others. */
 function edgesOfPrograms(edges, programs) {
-  const events = eventsOf(edges), isPart = (one, other) => other.place === one.place && one.kind === 'LR' && other.kind === 'LW';
+  const events = eventsOf(edges), isPart = (one, other) => other.place === one.place && one.kind < other.kind; // LR, LW
   const isLater = (one, other) => other.core === one.core && (other.place > one.place || isPart(one, other));
   const edgeOf = (from, to) => ({ from: from.text, relation: orderInProgram(from, to, programs), to: to.text });
   return events.flatMap(from => events.filter(to => isLater(from, to)).map(to => edgeOf(from, to)));
@@ -242,7 +223,7 @@ function cycleThrough(wanted, leaving, isShort) {
       return way;
     };
     const way = wayFrom(start, 0, false);
-    if (way !== null && way.asked > 0 && isBetter(way, best)) best = way;
+    if (way?.asked > 0 && isBetter(way, best)) best = way;
   }
   return best?.edges ?? null;
 }
@@ -255,7 +236,7 @@ const isNamed = (text, wanted) => wanted.includes(text.split(' ')[0]);
 function forbiddenCycle(edges, programs, loads, wanted) {
   const stepOf = edge => ({ edge, from: nameOfEvent(edge.from), to: nameOfEvent(edge.to) }), steps = [...edges, ...edgesOfPrograms(edges, programs)].map(stepOf);
   const leavingOf = some => new Map(some.map(({ from }) => [from, some.filter(step => step.from === from)])), leaving = leavingOf(steps);
-  const shortest = () => [...leaving.keys()].map(event => wayBack(event, leaving)).filter(way => way !== null).sort((one, other) => one.length - other.length)[0];
+  const shortest = () => [...leaving.keys()].map(event => wayBack(event, leaving)).filter(Boolean).sort((one, other) => one.length - other.length)[0];
   const far = [...steps, ...steps.flatMap(({ edge }) => laterEdges(edge, edges)).map(stepOf)], isMany = edges.length > MANY_EDGES;
   const isTold = ({ edge, from, to }) => [from, to].every(name => !isLoad(name) || isNamed(name, wanted)) && (edge.relation !== 'co' || isNamed(to, wanted));
   const cycle = cycleThrough(wanted, leavingOf(far.filter(isTold)), isMany) || cycleThrough(wanted, leavingOf(far), isMany) || (shortest() ?? []);
@@ -269,9 +250,9 @@ function forbiddenCycle(edges, programs, loads, wanted) {
 
 /** Whether a run's order is the execution of an answer: reads have the same sources, and writes to a location the same order. */
 function isExecution(order, { sources, coherence }) {
-  const found = new Map(order.map(entry => [nameOfEvent(entry.text), entry])), sourceName = read => found.get(nameOfEvent(read))?.source?.text ?? 'initial';
+  const found = new Map(order.map(entry => [nameOfEvent(entry.text), entry]));
   const writesTo = location => order.filter(entry => isWrite(entry) && entry.location === location).map(({ text }) => nameOfEvent(text));
-  return sources.every(({ read, write }) => nameOfEvent(sourceName(read)) === nameOfEvent(write)) &&
+  return sources.every(({ read, write }) => nameOfEvent(found.get(nameOfEvent(read))?.source?.text ?? 'initial') === nameOfEvent(write)) &&
     Object.entries(coherence).every(([location, writes]) => writes.map(nameOfEvent).join() === writesTo(location).join());
 }
 
@@ -281,12 +262,6 @@ function executionTables({ sources, coherence, values }) {
   return [
     tableOf('What each read returns', ['Read', 'Of'], sources.map(({ read, write }) => row(read, write === 'initial' ? 'the initial value' : write))),
     tableOf('In which order writes reach memory', ['Location', 'Writes'], Object.entries(coherence).map(([location, writes]) => row(location, writes.join(', ')))),
-    tableOf('Final values', ['Place', 'Value'], Object.entries(values).map(([place, word]) => row(placeName(place), String(word)))),
+    tableOf('Final values', ['Place', 'Value'], Object.entries(values).map(([place, word]) => row(placeName(place), word))),
   ];
-}
-
-/** Says under an answer as text which of its words the picture has otherwise. */
-function putReportKey(text) {
-  const key = query('#report-part .report-key') ?? byId('report-part').appendChild(html('p', 'small report-key'));
-  putText(key, currentCommand() === 'why' && text.includes('implied') ? '“implied” is “lock” in the picture.' : '');
 }

@@ -14,11 +14,13 @@ const amongEquals = (keys, ranks = keys) => keys.map((key, at) => {
 /** The lanes of an edge's two events. */
 const lanesOf = ({ from, to }) => [from, to].map(text => eventOf(text).core);
 
-/** At which side of its lane each way within a core is: 1 right, -1 left, 0 of others. A core's first way is nearer to the picture's edge; a shorter
- * one reaches less far (`share`). */
+/** The side at which fewer of a core's ways to a neighbour begin, as they turn there; else that nearer to the picture's edge. */
+const freeSide = (core, cores, ways) => Math.sign(ways.reduce((sum, [from, to]) => sum + (from === core && Math.abs(from - to) === 1 ? from - to : 0), 0)) || (2 * core < cores - 1 || cores === 1 ? -1 : 1);
+
+/** At which side of its lane each way within a core is: 1 right, -1 left, 0 of others. A core's first way is at its free side; a shorter one reaches less far (`share`). */
 function ownWays(edges, cores) {
-  const lanes = edges.map(lanesOf).map(([from, to], at) => (from === to ? from : `other ${at}`));
-  const sides = amongEquals(lanes).map(({ number }, at) => (lanes[at] < cores ? (2 * lanes[at] < cores - 1 || cores === 1) === (number % 2 === 0) ? -1 : 1 : 0));
+  const ways = edges.map(lanesOf), lanes = ways.map(([from, to], at) => (from === to ? from : `other ${at}`));
+  const sides = amongEquals(lanes).map(({ number }, at) => (lanes[at] < cores ? (number % 2 === 0 ? 1 : -1) * freeSide(lanes[at], cores, ways) : 0));
   const lengths = edges.map(({ from, to }) => Math.abs(eventOf(from).place - eventOf(to).place));
   return amongEquals(lanes.map((lane, at) => `${lane} ${sides[at]}`), lengths).map(({ number, of }, at) => ({ side: sides[at], share: (number + 1) / of }));
 }

@@ -11,7 +11,7 @@ function saveFile(name, blob) {
 
 /** A test's name as that of a file. */
 function fileName(name, ending) {
-  const plain = name.replace(/[^A-Za-z0-9+_-]+/g, '-').replace(/^-+|-+$/g, '').slice(0, 60);
+  const plain = name.replace(/[^A-Za-z0-9+_]+/g, '-').replace(/^-+|-+$/g, '').slice(0, 60);
   return (plain === '' ? 'test' : plain) + ending;
 }
 
@@ -126,6 +126,8 @@ async function savePoints(name, picture) {
   }
 }
 
+const saveReason = save => withWholeCycle(() => save(`${testName()}-why`, pictureOfReason()));
+
 const saveDrawn = (name, picture) => saveText(fileName(name, '.svg'), savedPicture(picture), 'image/svg+xml');
 
 const SAVES = {
@@ -139,6 +141,6 @@ const SAVES = {
   line: () => saveText(fileName(shown.run.test, '.json'), shown.line + '\n', 'application/json'),
   svg: () => saveDrawn(pictureName(), pictureNow()),
   png: () => savePoints(pictureName(), pictureNow()),
-  'reason-svg': () => withWholeCycle(() => saveDrawn(`${testName()}-why`, pictureOfReason())),
-  'reason-png': () => withWholeCycle(() => savePoints(`${testName()}-why`, pictureOfReason())),
+  'reason-svg': () => saveReason(saveDrawn),
+  'reason-png': () => saveReason(savePoints),
 };

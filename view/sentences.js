@@ -5,8 +5,8 @@
 const coreOf = entry => 'P' + entry.core;
 const nameOf = entry => `P${entry.core}:${entry.place}`;
 
-function listed(words) {
-  return words.length < 2 ? words.join('') : words.slice(0, -1).join(', ') + ' and ' + words.at(-1);
+function listed(words, joint = 'and') {
+  return words.length < 2 ? words.join('') : `${words.slice(0, -1).join(', ')} ${joint} ${words.at(-1)}`;
 }
 
 /** What a load passed, in sentences: an own store to its location that it was given, and others. */

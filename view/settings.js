@@ -106,7 +106,7 @@ function putCommand(name) {
 function showTestLine(command) {
   const { options = Tso.DEFAULTS } = readSettings(command);
   const on = !SETTINGS[command].includes('bus') ? '' : showsCaches([options]) ? machineTitle(options) : plainMachineName(options);
-  putText(byId('test-line'), testName() + (isLecture() || command === 'run' ? '' : `: ${[command, on].filter(Boolean).join(', ')}`));
+  putText(byId('test-line'), testName() + (isLecture() || command === 'run' ? '' : ` · ${[command, on].filter(Boolean).join(', ')}`));
 }
 
 /** The words of the command line that asks the same. */

@@ -61,11 +61,10 @@ async function saveWhole(name, makePage, more) {
 
 /** The page with what is shown; with a list of tests it is named by the first of these. */
 function savePage() {
-  const tests = taught.list.length;
-  playlist.saved = taught.list;
+  playlist.saved = taughtNow();
   sayList();
-  for (const place of queryAll('.listed')) putText(place, place.textContent.replace(UNSAVED, ''));
-  return saveWhole(tests > 1 ? listFile('lecture') : fileName(pictureName(), '.html'), () => wholePage(addressNow()));
+  for (const { firstChild: said } of queryAll('.listed')) if (said) said.data = said.data.replace(UNSAVED, '');
+  return saveWhole(taught.list.length > 1 ? listFile(taught.name ? '' : 'lecture') : fileName(pictureName(), '.html'), () => wholePage(addressNow()));
 }
 
 SAVES.page = savePage;

@@ -20,7 +20,7 @@ const FEW_COLUMNS = 6; // places in a table that has the programs beside it
 
 /** Shows the rows that the filter finds, of many the first ones. */
 function filterStates(sheet) {
-  const [filter, alone] = sheet.querySelectorAll('.filter, .alone'), more = sheet.querySelector('.more-rows');
+  const [filter, alone, more] = ['.filter', '.alone', '.more-rows'].map(name => sheet.querySelector(name));
   const table = sheet.querySelector('table'), rows = [...table.tBodies[0].rows];
   const titles = [...table.tHead.rows[0].cells].map(cell => cell.textContent);
   const words = filter.value.toLowerCase().replace(/[()[\]]|\/\\/g, ' ').replace(/\s*=\s*/g, '=').split(/\s+/).filter(Boolean);
@@ -74,7 +74,7 @@ function placesNote() {
 /** What the names of places and of choices mean, by one of each. */
 function keySaid(names) {
   const [name, core, register] = names.map(each => /^(\d):(\w+)$/.exec(each)).find(found => found !== null) ?? [];
-  return `${name === undefined ? '' : `${name} is the register ${register} of P${core}. `}In the choices 0s lets P0 take its next step, and 0d drains its oldest store.`;
+  return [name === undefined ? '' : `${name} is the register ${register} of P${core}. `, html('span', 'of-choices', 'In the choices 0s lets P0 take its next step, and 0d drains its oldest store.')];
 }
 
 const linkButton = () => html('button', { class: 'quiet', 'data-copy-link': '' }, 'Copy the link');
@@ -103,19 +103,19 @@ function statesSheet(outcomes, sequential, truths) {
   }
   for (const button of table.querySelectorAll('thead .sorts')) if (Object.hasOwn(MEANINGS, button.textContent)) button.dataset.means = button.textContent;
   const filter = html('input', { class: 'filter', type: 'search', autocomplete: 'off', placeholder: `${first}=1` });
-  const alone = sequential ? [html('label', {}, html('input', { class: 'alone', type: 'checkbox' }), ' TSO alone')] : [];
-  const tools = html('div', 'buttons small', html('label', {}, 'Filter ', filter), ...alone, html('span', { class: 'filtered', role: 'status' }));
+  const { length: fresh } = table.querySelectorAll('tbody strong'), alone = fresh > 0 ? [html('label', {}, html('input', { class: 'alone', type: 'checkbox' }), ` TSO alone (${fresh})`)] : [];
+  const tools = html('div', 'buttons small', ...alone, html('label', {}, 'Filter ', filter), html('span', { class: 'filtered', role: 'status' }));
   const more = html('button', { class: 'more-rows', hidden: '' });
   const link = html('p', 'buttons tools small', linkButton(), html('span', { class: 'page-saved', role: 'status' }));
   const words = sequential ? [html('p', 'small faint alone-said', 'TSO has store buffers. SC, sequential consistency, has none.')] : [];
-  const key = html('p', 'small faint key', keySaid(Object.keys(values))), same = alike.length > 0 ? [html('p', 'small', `In each: ${alike.map(name => `${name}=${values[name]}`).join(', ')}.`)] : [];
+  const key = html('p', 'small faint key', ...keySaid(Object.keys(values))), same = alike.length > 0 ? [html('p', 'small', `In each: ${alike.map(name => `${name}=${values[name]}`).join(', ')}.`)] : [];
   const programs = html('p', 'programs', ...programLines(asWritten(inputOf('outcomes'), told)));
   programs.querySelectorAll('code').forEach((code, at) => lines.length > 0 && setAll(code, { 'data-c': lines.flat()[at] }));
   const isBroad = columns.length > FEW_COLUMNS || programs.childElementCount > MANY_CORES;
   const sheet = html('div', isBroad ? 'states-sheet broad' : 'states-sheet', programs,
     html('div', 'states-told', ...(outcomes.states.length > 1 ? [tools] : []), ...same, table, more, link), html('div', 'states-notes', ...words, key, ...ways, ...placesNote()));
   sheet.style.setProperty('--states', outcomes.states.length);
-  sheet.dataset.many = outcomes.unfinished ? 'met' : 'outcomes';
+  sheet.dataset.many = outcomes.isWithWhy ? `rows: ${outcomes.states.length - 1} met, and the one of “Why”` : outcomes.unfinished ? 'met' : 'outcomes';
   if (outcomes.states.length > 1) filterStates(sheet);
   return [sheet];
 }

@@ -8,8 +8,9 @@ const CLIMB = { by: 8, from: 2000 };
 
 /** A question with ever higher limits, the last of them its own. Up to an answer that is whole they all give the same. */
 function climbed(options) {
-  const name = LIMIT_OF[options.command], most = options[name] ?? Tso.DEFAULTS[name], rungs = [options];
-  if (name === undefined) return rungs;
+  const name = LIMIT_OF[options.command], most = options[name] ?? Tso.DEFAULTS[name];
+  if (name === undefined) return [options];
+  const rungs = [{ ...options, [name]: most }];
   for (let at = Math.floor(most / CLIMB.by); at >= CLIMB.from; at = Math.floor(at / CLIMB.by)) rungs.unshift({ ...options, [name]: at });
   return rungs;
 }
@@ -18,12 +19,13 @@ function climbed(options) {
 const WORK = `'use strict';
 ${Tso}
 const LIMIT_OF = ${JSON.stringify(LIMIT_OF)};
-function climb(tso, rungs, input, pass) {
-  const limits = rungs.map(options => options[LIMIT_OF[options.command]]);
+function climb(tso, rungs, input, before) {
+  const limits = rungs.map(options => options[LIMIT_OF[options.command]]), [{ command }] = rungs, most = limits.at(-1), pass = before.length;
+  if (pass > 0 && rungs.length > 1) postMessage({ progress: { command, pass, before, count: 0, next: limits[0], most } });
   for (const [at, options] of rungs.slice(0, -1).entries()) {
     const answer = tso.answer(options, input);
     if (answer.status !== Tso.STATUS.unended) return answer;
-    postMessage({ progress: { command: options.command, pass, count: limits[at], next: limits[at + 1], most: limits.at(-1), answer } });
+    postMessage({ progress: { command, pass, before, count: limits[at], next: limits[at + 1], most, answer } });
   }
   return tso.answer(rungs.at(-1), input);
 }
@@ -31,9 +33,9 @@ onmessage = async ({ data: { bytes, questions, input } }) => {
   try {
     const tso = await Tso.of(bytes);
     const answers = [];
-    for (const [pass, rungs] of questions.entries()) {
+    for (const rungs of questions) {
       const { after } = rungs[0];
-      answers.push(after === undefined || after === answers[0].status ? climb(tso, rungs, input, pass) : null);
+      answers.push(after === undefined || after === answers[0].status ? climb(tso, rungs, input, answers) : null);
     }
     postMessage({ answers });
   } catch (fault) {
@@ -51,7 +53,7 @@ const workerPolicy = window.trustedTypes?.createPolicy('worker', {
 });
 
 /** Begins to answer questions (options) on an input: `answers` is a promise, never kept after `stop`. One with a status as its `after` is asked where
- * the first answer has that, else answered by null. `tell` is told how far the work came, with the last answer. */
+ * the first answer has that, else answered by null. `tell` is told how far the work came, with the last answer and those `before` it. */
 function beginTask(bytes, questions, input, tell = () => {}) {
   const address = URL.createObjectURL(new Blob([WORK], { type: 'text/javascript' }));
   const worker = new Worker(workerPolicy?.createScriptURL(address) ?? address);

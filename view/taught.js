@@ -6,7 +6,7 @@ const MOST_TAUGHT = { lessons: 20, steps: 60, tests: 60, text: 2000 };
 const LESSON_NAME = /^[a-z0-9-]{1,40}$/;
 
 /** What was brought along beside what the page has itself: it is saved with the page. */
-const taught = { lessons: [], list: [] };
+const taught = { lessons: [], list: [], name: '' };
 
 const needTaught = (isSo, what) => need(isSo, `This isn't a file of lessons or of tests: ${what}.`);
 const isTestText = value => typeof value === 'string' && BEGINS_TEST.test(value) && whyTooLong(value) === null;
@@ -48,11 +48,11 @@ function readLesson(value, at) {
   return { name, title, ...(test === undefined ? { text } : { test }), settings: Object.fromEntries(known), caches: caches === true, steps: steps.map((step, of) => readLessonStep(step, `step ${of + 1} of ${where}`)) };
 }
 
-/** A test of a list: its name and the address that opens it. */
+/** A test of a list: its name, the address that opens it, whether without its reason. */
 function readListed(value, at) {
-  const where = `test ${at + 1}`, { name, address } = readTaughtObject(value, where);
+  const where = `test ${at + 1}`, { name, address, noReason } = readTaughtObject(value, where);
   needTaught(isText(name) && typeof address === 'string' && TEST_ADDRESS.test(address) && address.length <= MOST_TEXT.bytes, `${where} needs a "name" and the "address" of a test`);
-  return { name, address };
+  return { name, address, noReason: noReason === true };
 }
 
 /** The lessons and the tests of a text of JSON. Throws a Refusal where it has none. */
@@ -63,14 +63,14 @@ function readTaught(text) {
   } catch {
     needTaught(false, 'it isn\'t JSON');
   }
-  const { lessons = [], list = [] } = readTaughtObject(value, 'the whole');
+  const { lessons = [], list = [], name } = readTaughtObject(value, 'the whole');
   needTaught(Array.isArray(lessons) && lessons.length <= MOST_TAUGHT.lessons && Array.isArray(list) && list.length <= MOST_TAUGHT.tests, '"lessons" and "list" are lists, and not longer');
   needTaught(lessons.length + list.length > 0, 'it has no lesson and no test');
-  return { lessons: lessons.map(readLesson), list: list.map(readListed) };
+  return { lessons: lessons.map(readLesson), list: list.map(readListed), name: isText(name) ? name : '' };
 }
 
 /** Takes lessons and tests in. Lessons of a name that is there take its place. */
-function takeTaught({ lessons, list }) {
+function takeTaught({ lessons, list, name }) {
   for (const one of lessons) {
     for (const all of [LESSONS, taught.lessons]) {
       const at = all.findIndex(({ name }) => name === one.name);
@@ -78,7 +78,7 @@ function takeTaught({ lessons, list }) {
       else all[at] = one;
     }
   }
-  if (list.length > 0) taught.list = list;
+  if (list.length > 0) Object.assign(taught, { list, name });
   drawLessons();
   drawList();
 }
@@ -107,7 +107,7 @@ function tryTaught(text, act) {
 /** What a page that was saved brings along. */
 function takeSavedTaught() {
   const saved = query('meta[name=taught]')?.content;
-  if (saved) tryTaught(saved, () => {});
+  if (saved) tryTaught(saved, () => { playlist.saved = taughtNow(); });
 }
 
 /** What is saved with the page; empty where nothing was brought along. */

@@ -3,6 +3,7 @@
 
 const EXAMPLES = {
   "both-loads-pass.order": "X86 SB\n{ }\n P0          | P1          ;\n MOV [x],$1  | MOV [y],$1  ;\n MOV EAX,[y] | MOV EAX,[x] ;\nexists (0:EAX=0 /\\ 1:EAX=0)\n====\nTest SB\nMachine msi depth=4 sets=1 ways=2 words=1\nOrder\nP0:1 R y=0\nP1:1 R x=0\nP0:0 W x=1\nP1:0 W y=1\nEndorder 4\nRegisters P0 EAX=0 EBX=0 ECX=0 EDX=0 ESI=0 EDI=0\nRegisters P1 EAX=0 EBX=0 ECX=0 EDX=0 ESI=0 EDI=0\nMemory x=1 y=1\nCondition exists true\nChoices used=6 stalled=0 unused=0\nCache P0 hits=0 misses=2 upgrades=0 forwards=0 write_backs=0 flushes=0\nCache P1 hits=0 misses=2 upgrades=0 forwards=0 write_backs=0 flushes=0\n",
+  "false-sharing-loads.litmus": "X86 false-sharing-loads\nWords=2\n{ }\n P0          | P1          ;\n MOV EAX,[x] | MOV EAX,[y] ;\n MOV [x],$1  | MOV [y],$1  ;\n MOV EBX,[x] |             ;\nexists (0:EBX=1)\n====\n0s 0s 0d 1s 1s 1d 0s\n",
   "false-sharing.litmus": "X86 false-sharing\nWords=2\n{ }\n P0         | P1          ;\n MOV [x],$1 | MOV [y],$1  ;\n MOV [x],$2 | MOV EAX,[y] ;\nexists (1:EAX=1)\n====\n0s 0d 1s 1d 0s 0d 1s\n",
   "full-buffer.litmus": "X86 full\n{ }\n P0         ;\n MOV [x],$1 ;\n MOV [x],$2 ;\n MOV [x],$3 ;\n MOV [x],$4 ;\n MOV [x],$5 ;\n====\n0s 0s 0s 0s 0s 0d 0s 0d 0d 0d 0d\n",
   "load-too-new.order": "X86 SB\n{ }\n P0          | P1          ;\n MOV [x],$1  | MOV [y],$1  ;\n MOV EAX,[y] | MOV EAX,[x] ;\nexists (0:EAX=0 /\\ 1:EAX=0)\n====\nTest SB\nMachine msi depth=4 sets=1 ways=2 words=1\nOrder\nP0:1 R y=0\nP1:1 R x=1\nP0:0 W x=1\nP1:0 W y=1\nEndorder 4\nRegisters P0 EAX=0 EBX=0 ECX=0 EDX=0 ESI=0 EDI=0\nRegisters P1 EAX=0 EBX=0 ECX=0 EDX=0 ESI=0 EDI=0\nMemory x=1 y=1\nCondition exists true\nChoices used=6 stalled=0 unused=0\nCache P0 hits=0 misses=2 upgrades=0 forwards=0 write_backs=0 flushes=0\nCache P1 hits=0 misses=2 upgrades=0 forwards=0 write_backs=0 flushes=0\n",
@@ -23,6 +24,7 @@ const SHOWS = {
   "full-buffer.litmus": "a buffer of 4 stores is full: the fifth store stalls until the first has drained",
   "locked-waits.litmus": "a locked exchange stalls until the buffer is empty",
   "false-sharing.litmus": "false sharing, two words a line: each core uses its own location, but both are in one line, so each access misses",
+  "false-sharing-loads.litmus": "false sharing where each core loads first: MSI, MESI, MOESI and MOSI each do something else",
   "both-loads-pass.order": "the report of the first example: a TSO execution",
   "load-too-new.order": "a load of 1 where no store has reached it: the first breach is named (C5, the axiom of the read value), with the value that is due",
 };

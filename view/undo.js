@@ -26,7 +26,8 @@ function remember(event) {
   const now = snapshotNow(), { past } = undoing, before = undoing.now;
   if (before !== null && !isSameSnapshot(before, now)) {
     const field = event?.type === 'input' ? event.target.id : null, isOneEdit = field !== null && field === undoing.field && event.timeStamp - undoing.time < TYPED_TOGETHER;
-    if (!isOneEdit) past.push(before);
+    if (before.command !== now.command && isSameSnapshot(past.at(-1) ?? {}, now)) past.pop(); // back from an answer
+    else if (!isOneEdit) past.push(before);
     if (past.length > MOST_UNDONE) past.shift();
     if (isSameSnapshot(past.at(-1) ?? {}, now)) past.pop(); // what was typed was taken back by hand
     Object.assign(undoing, { future: [], field, time: event?.timeStamp ?? 0 });
@@ -59,10 +60,9 @@ function turn(from, to) {
   showUndoing();
 }
 
-/** What an act changed, by the parts in which two snapshots differ; the first of them alone. */
-const CHANGED_WORDS = { command: 'what was asked', test: 'the change of the test', given: 'the change of the order', choices: 'a choice', settings: 'a setting', beside: 'what stands beside the machine', caches: 'whether caches are in sight' };
+const CHANGED_WORDS = { command: 'the last question', test: 'the change of the test', given: 'the change of the order', choices: 'a choice', settings: 'a setting', beside: 'what stands beside the machine', caches: 'whether caches are in sight' };
 
-/** What is different between two snapshots, in words; undefined where nothing is. */
+/** What is different first between two snapshots, in words; undefined where nothing is. */
 const changeSaid = (one, other) => Object.entries(CHANGED_WORDS).find(([name]) => JSON.stringify(one[name]) !== JSON.stringify(other[name]))?.[1];
 
 /** Goes one act back or forward, and says in the sentence over the machine which it was. */
@@ -103,7 +103,7 @@ function takeUndoing(state) {
 function showUndoing() {
   for (const [id, { length, [length - 1]: to }] of [['undo', undoing.past], ['redo', undoing.future]]) {
     byId(id).disabled = length === 0;
-    byId(id).title = to && undoing.now ? `${byId(id).textContent}: ${changeSaid(to, undoing.now)}` : '';
+    byId(id).title = byId(id).ariaLabel = byId(id).textContent + (to && undoing.now ? `: ${changeSaid(to, undoing.now)}` : '');
   }
 }
 

@@ -37,16 +37,16 @@ function openVerdict(states, sentence) {
   const test = inputOf('why'), quantifier = quantifierOf(test), isMet = isDecided(states), can = isMet || knownByWhy();
   if (quantifier === null || can === null) return [html('p', { role: 'status', class: 'is-open' }, sentence)];
   const wanted = wantedWords(readTest(test).proposition), found = wayOfWhy(states).length > 0 ? 'found the run of the first row' : whySaid();
-  return [html('p', { role: 'status' }, verdictOf(asClaimed(can, quantifier, wanted))), ...termsPart(wanted), html('p', {}, isMet ? sentence : `“Why” has ${found}, not this search. ${sentence}`)];
+  return [html('p', { role: 'status' }, verdictOf(asClaimed(can, quantifier, wanted))), ...termsPart(test), html('p', {}, isMet ? sentence : `“Why” has ${found}, not this search. ${sentence}`)];
 }
 
 /** What one can do where a limit was too low, or work was stopped (`met` final states are known then). */
-function waysOn(command, { isStopped = false, met = 0, among } = {}) {
+function waysOn(command, { isStopped = false, met = 0, known = met, among } = {}) {
   const found = whySaid(), name = LIMIT_OF[command], most = Number(settingOf(name).max), next = Math.min(most, MORE * valueOf(name));
   const again = html('li', {}, html('button', { 'data-ask': command }, 'Begin again'), ' It starts from nothing, with the same limit.');
   const allow = html('button', { 'data-more': `${name} ${next}` }, `Allow ${next.toLocaleString('en')} ${name}`);
   const higher = next > valueOf(name) ? [html('li', {}, allow, ' It takes longer, and more memory.')] : [];
-  const shown = html('li', {}, html('button', { 'data-met': '' }, 'Show what was met'), ` ${met === 1 ? 'One outcome' : `${met} outcomes`}, among the first ${grouped(among ?? 0)} states. Later ones weren't told yet.`);
+  const shown = html('li', {}, html('button', { 'data-met': '' }, 'Show what was met'), ` ${known === 1 ? 'One outcome' : `${known} outcomes`}${known > met ? `: this search met ${met}, earlier ones ${known - met} more` : ''}, among the first ${grouped(among ?? 0)} states. Later ones weren't told yet.`);
   const other = command === 'outcomes'
     ? [html('li', {}, html('button', { 'data-ask': 'why' }, found === null ? 'Ask why' : 'Show it'), found !== null ? ` “Why” has ${found}.` : ' It looks at the one end that the condition asks for, and needs no states.')]
     : [html('li', {}, html('button', { 'data-ask': 'outcomes' }, 'Find all outcomes'), ' It goes through the states of the machine, and tells no cases apart.')];

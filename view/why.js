@@ -5,23 +5,20 @@
 /** The sheet that is shown: the answer, the programs, and the cycle that is drawn. */
 const sheet = { told: null, programs: null, cycle: null, answered: [], width: 0 }; // `answered`: of what it was made, in a window of such a width
 
-/** Whether a module answers `why`, tried on the first test. */
-function tellsWhy(tso) {
+/** What an act gives; false where an older module throws. */
+function tried(act) {
   try {
-    return tso.answer({ command: 'why', json: true }, EXAMPLES[FIRST_TEXT]).text.startsWith('{');
+    return act();
   } catch {
     return false;
   }
 }
 
+/** Whether a module answers a command on the first test. */
+const answersTo = (tso, command) => tried(() => tso.answer({ command, json: true, seeds: 1 }, EXAMPLES[FIRST_TEXT]).text.startsWith('{'));
+
 /** Whether a module has the larger set of instructions. */
-function hasLargerSet(tso) {
-  try {
-    return tso.answer({ command: 'check', instructions: 'neither' }, '').status === Tso.STATUS.nothingAsked;
-  } catch {
-    return false;
-  }
-}
+const hasLargerSet = tso => tried(() => tso.answer({ command: 'check', instructions: 'neither' }, '').status === Tso.STATUS.nothingAsked);
 
 /** A test's programs, its condition's text or null, and the machine at its start, by its trace without choices. */
 function readTest(input) {
@@ -62,7 +59,7 @@ function showReason(answer, test, beside) {
   Object.assign(sheet, { told, programs, test, cycle: null, events: null, answered: [answer, test, beside], width: innerWidth });
   showQuestion(test); // no picture repeats it
   const isTso = told.model === 'tso', can = told.answer !== 'never';
-  if (!can && isTso) possible.refuted = test;
+  if (isTso) possible[can ? 'told' : 'refuted'] = test;
   if (isTso) noteAnswer(test, told);
   const { said = [], drawn, run = [], more = [] } = can ? allowedParts(told, programs, proposition, beside) : { drawn: refutedParts(told) };
   const title = isClaim(test) ? `Why ${claimWords(!can).toLowerCase()}` : !can ? 'Why it can\'t be' : told.asked === null ? 'How it may end' : 'How it can be';
@@ -70,10 +67,10 @@ function showReason(answer, test, beside) {
   const heading = answerTitle(title);
   setAll(heading, early);
   const section = html('section', { class: 'reason', 'aria-label': 'Why' }, heading, ...strayPart(test),
-    html('p', { role: 'status' }, ...(isTso ? judgeThought(can) : []), verdictOf(plainAnswer(told, proposition, quantifierOf(test)), early)),
-    ...termsPart(proposition && wantedWords(proposition)), ...enoughPart(told, test, proposition), ...said, ...drawn, ...countsOffer());
+    html('p', { role: 'status' }, ...(isTso ? judgeThought(can) : []), verdictOf(plainAnswer(told, proposition, quantifierOf(test)), early), ...said),
+    ...termsPart(test), ...enoughPart(told, test, proposition), ...drawn, ...countsOffer());
   fill(byId('states'), section);
-  const [first, second] = told.answer === 'never' ? cyclesOf(told.steps) : [];
+  const [first, second] = can ? [] : cyclesOf(told.steps);
   if (first) drawCycle(first.at);
   if (!second) section.querySelector('[data-cycle]')?.remove(); // the one that is drawn
   showFromBehind();
@@ -170,26 +167,26 @@ function allowedParts(answered, programs, proposition, beside) {
   const places = proposition === null ? null : wantedWords(proposition), wanted = places === null ? [] : askedPlaces(programs, places, coherence);
   const executed = edgesOf(told);
   const loads = loadsThatPassed(choices, model), cycle = forbiddenCycle(executed, programs, loads, wanted);
-  const passes = passEdges(loads, executed, cycle), few = cycle.length > 0 ? cycle : askedEdges(executed, wanted);
+  const passes = passEdges(loads, executed, cycle, wanted), few = cycle.length > 0 ? cycle : askedEdges(executed, wanted);
   const edges = [...new Set([...cycle, ...passes, ...few, ...executed])];
   const isMany = few.length > 0 && edges.length > (cycle.length > 0 ? FEW_BESIDE : MANY_EDGES);
   const run = html('button', { 'data-choices': choices, 'data-depth': DEPTH_OF[model] }, 'Run it');
   const isOpen = edgesOfPrograms(executed, programs).some(({ relation, to }) => relation === 'unkept' && !loads.some(({ text }) => nameOfEvent(text) === nameOfEvent(to)));
   const isOther = wanted.some(place => /,\[/.test(programs[place[1]]?.[place.slice(3)])) && cycle.some(({ to }) => isLoad(to) && !isNamed(to, wanted));
-  const { said: passing, more } = passesPart(loads, own.said, cycle, { isToo, isMany, isOpen }), note = isCalm ? [html('p', {}, 'The answer as text has a run of its own.')] : [];
+  const { said: passing, more } = passesPart(loads, own.said, cycle, { wanted, isToo, isMany, isOpen }), note = choices === answered.choices ? [] : [html('p', 'ways-said', isCalm ? 'The answer as text has a run of its own.' : 'The answer as text has another run of the same execution.')];
   return {
     said: sequentialPart(sequential, isCalm && loads.length === 0),
-    drawn: executionPart(programs, edges, isMany ? few : edges, cycle, passing, isOther),
+    drawn: executionPart(programs, edges, isMany ? few : edges, cycle, passing, isToo || sequential === null ? [] : forbidPart(sheet, cycle), isOther),
     run: [html('span', 'of-run', run, ...choicesPart(choices))],
     more: [...more, html('div', 'beside', ...executionTables(told.asked === null ? { ...told, values: { ...registersAtEnd(choices, programs, model), ...told.values } } : told)), ...note],
   };
 }
 
 /** An execution that is drawn, edge by edge: first its forbidden cycle (`isOther`: by loads not asked for). What is told `beside` is under its legend. */
-function executionPart(programs, edges, few, cycle, beside, isOther) {
+function executionPart(programs, edges, few, cycle, beside, offer, isOther) {
   if (edges.length === 0) return [];
   const [first] = cycle, end = first && `So this run needs store buffers${isOther ? ', by other loads than those asked for' : ''}: without them ${eventWords(first.from)} would be before itself. TSO doesn't keep the dashed arrow${cycle.filter(({ relation }) => relation === 'unkept').length > 1 ? 's' : ''}.`;
-  const told = { end: end ?? '', name: 'The execution', closed: cycle.length, beside };
+  const told = { end: end ?? '', name: 'The execution', closed: cycle.length, beside, offer };
   const panelOf = (shown, isPicked) => new CyclePanel(programs, shown, isPicked ? { ...told, end: '', closed: 0 } : told);
   return [drawExecution(programs, edges, few, panelOf, first ? 'a cycle that needs store buffers' : 'those at what is asked for')];
 }
@@ -218,7 +215,7 @@ function sequentialPart(told, isCalm) {
   if (told === null) return [];
   const said = told.answer !== 'allowed' ? [`Without store buffers (sequential consistency): ${isClaim(sheet.test) ? 'the claim holds' : 'it can\'t be'}.`]
     : [html('strong', {}, 'No fence can forbid this end: sequential consistency allows it, too.'), isCalm ? ' In the run shown here no load passes a store.' : ''];
-  return [html('p', 'sequential', ...said)];
+  return [' ', html('span', 'sequential', ...said)];
 }
 
 /** The choices of a run that was found, folded where they are many. */
@@ -232,12 +229,12 @@ const loadsThatPassed = (choices, model) => (runOf(choices, model)?.order ?? [])
 /** Whether a cycle has this load behind a store. */
 const isOfCycle = (load, cycle) => cycle.some(({ relation, to }) => relation === 'unkept' && nameOfEvent(to) === nameOfEvent(load.text));
 
-/** These loads as they are told: those of the cycle first, by their cores. */
-const toldFirst = (loads, cycle) => [...loads].sort((one, other) => isOfCycle(other, cycle) - isOfCycle(one, cycle) || one.text.localeCompare(other.text, 'en', { numeric: true }));
+/** These loads as they are told: those of the cycle first, then those that the condition asks for, by their cores. */
+const toldFirst = (loads, cycle, wanted) => [...loads].sort((one, other) => isOfCycle(other, cycle) - isOfCycle(one, cycle) || isNamed(other.text, wanted) - isNamed(one.text, wanted) || one.text.localeCompare(other.text, 'en', { numeric: true }));
 
 /** What is told of loads and no cycle has: program order to a load that passed a store, or where its value is from. */
-function passEdges(loads, executed, cycle) {
-  const drawn = eventsOf(executed).map(({ text }) => nameOfEvent(text)), told = toldFirst(loads, cycle).slice(0, MOST_PASSES);
+function passEdges(loads, executed, cycle, wanted) {
+  const drawn = eventsOf(executed).map(({ text }) => nameOfEvent(text)), told = toldFirst(loads, cycle, wanted).slice(0, MOST_PASSES);
   return told.filter(load => !isOfCycle(load, cycle)).flatMap(({ text, location, passed }) => {
     const stores = passed.filter(store => store.location !== location), store = stores.find(each => drawn.includes(nameOfEvent(each.text))) ?? stores[0];
     return store === undefined ? executed.filter(({ relation, to }) => relation === 'rf' && to === text) : [{ from: store.text, relation: 'unkept', to: text }];
@@ -248,8 +245,8 @@ function passEdges(loads, executed, cycle) {
 const passWords = load => passSentences(load).map(each => (eventWords(load.text).endsWith(')') ? each : each.replace(/ \(.*\)/, '')));
 
 /** What loads passed in the run that a sentence names so, and what keeps such an order. Of many those of the cycle, others in a fold. `isOpen`: others may pass. */
-function passesPart(loads, named, cycle, { isToo, isMany, isOpen }) {
-  const passes = toldFirst(loads, cycle).flatMap(passWords), isOne = loads.length === 1;
+function passesPart(loads, named, cycle, { wanted, isToo, isMany, isOpen }) {
+  const passes = toldFirst(loads, cycle, wanted).flatMap(passWords), isOne = loads.length === 1;
   if (passes.length === 0) return { said: [], more: [] };
   const title = isOne ? 'A load passes a store' : 'Loads pass stores', most = isMany ? Math.max(1, loads.filter(load => isOfCycle(load, cycle)).length) : MOST_PASSES;
   const rest = passes.splice(passes.length > MOST_PASSES ? Math.min(most, MOST_PASSES / 2) : most);
@@ -271,10 +268,10 @@ function markStep(at) {
 /** Draws the cycle of a step of the tree. */
 function drawCycle(at) {
   markStep(at);
-  const { step, cycle } = closingOf(sheet.told.steps[at]), order = step === 'cycle' ? ' in memory order' : '';
-  const end = `So ${eventWords(cycle[0].from)} would be before itself${order}. No order allows that.`, panelOf = () => new CyclePanel(sheet.programs, cycle, { end });
+  const { step, cycle } = sheet.told.steps[at].closing, order = step === 'cycle' ? ' in memory order' : '';
+  const end = `So ${eventWords(cycle[0].from)} would be before itself${order}. No order allows that.`, panelOf = () => new CyclePanel(sheet.programs, cycle, { end, offer: neededPart(sheet) });
   fill(query('#states .drawn'), drawExecution(sheet.programs, cycle, cycle, panelOf));
-  for (const button of queryAll('[data-cycle]')) button.setAttribute('aria-pressed', String(Number(button.dataset.cycle) === at));
+  for (const button of queryAll('[data-cycle]')) button.ariaPressed = String(Number(button.dataset.cycle) === at);
 }
 
 /** Asks why, by one click from a run. */

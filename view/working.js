@@ -67,18 +67,21 @@ function placeStopped() {
   box.hidden = false;
 }
 
+/** What the first question of the work was answered last; null where nothing is known yet. */
+const firstAnswer = () => working.progress && (working.progress.before[0] ?? working.progress.answer);
+
 /** Says in sight that the work was stopped, how far it had come, and what one can do. */
 function sayStopped(command) {
-  const { progress } = working, { states, unfinished } = command === 'outcomes' && progress !== null ? readMet(progress.answer.text) : {}, met = states?.length ?? 0, among = unfinished?.states;
+  const { progress } = working, { states, unfinished } = command === 'outcomes' && progress !== null ? readMet(firstAnswer().text) : {}, met = states?.length ?? 0, among = unfinished?.states, known = met && allMet(states, readSettings(command).options.depth).length;
   const far = progress === null ? '' : `, at about ${grouped(estimated(progress))} of at most ${grouped(progress.most)} ${LIMIT_OF[progress.command]}`;
   byId('stopped-said').textContent = `Stopped after ${secondsWorked()} s${far}: there is no whole answer.`;
-  fill(byId('stopped-ways'), ...(Object.hasOwn(LIMIT_OF, command) ? [waysOn(command, { isStopped: true, met, among })] : []));
+  fill(byId('stopped-ways'), ...(Object.hasOwn(LIMIT_OF, command) ? [waysOn(command, { isStopped: true, met, known, among })] : []));
   placeStopped();
 }
 
 /** Shows the final states that a stopped search had met. */
 function showMetBefore() {
-  const { progress: { answer } } = working;
+  const answer = firstAnswer();
   keepOwnRun();
   putCommand('outcomes');
   showMet(answer, showAsked('outcomes').options.depth, true);
@@ -86,13 +89,18 @@ function showMetBefore() {
   focusAnswer();
 }
 
-/** Ends the work before its answer, with the focus at what one can do then. */
+/** Ends the work before its answer, with the focus at what one can do then; or with it, where only what it is compared with is open. */
 function stopWork() {
-  if (bench.task === null) return;
+  if (bench.task === null || bench.task.isAside) return stopTask();
   stopTask();
+  const command = currentCommand();
+  if (firstAnswer()?.status === GOOD) {
+    drawLong(command, [firstAnswer(), { status: null }], showAsked(command).options, inputOf(command));
+    return focusAnswer();
+  }
   byId('report').textContent = laidOut(formats.texts[formatNow()] ?? '', formatNow());
   showSaid({ hint: '' }, '');
-  sayStopped(currentCommand());
+  sayStopped(command);
   focusOn(query('#stopped-ways button') ?? byId('stopped-close'));
   bringNear(byId('stopped'));
   if (!drive.isOn) return;
@@ -102,10 +110,12 @@ function stopWork() {
 
 on(document, 'keydown', event => {
   if (event.key !== 'Escape') return;
-  if (event.target.matches('#test-part textarea')) byId('test-part').firstElementChild.focus(); // what is asked goes on
+  const panel = byId('test-part'), [title] = panel.children;
+  if (event.target.matches('#test-part textarea')) title.focus(); // what is asked goes on
   else if (bench.task !== null) stopWork();
-  else if (isLecture() && byId('stopped').hidden && !byId('test-part').open) (lastLecture.isAsked ? toggleLecture : askToEnd)();
-  else if (!isLecture() && !byId('way-back').hidden && !event.target.matches('textarea, input') && !query('#folds [open]')) backToRun();
+  else if (panel.open && event.target === title) panel.open = false;
+  else if (isLecture() && byId('stopped').hidden && !panel.open) (lastLecture.isAsked ? toggleLecture : askToEnd)();
+  else if (!isLecture() && !byId('way-back').hidden && !event.target.matches('textarea, input') && !query('#folds [open]')) backToRun(!isLesson());
 });
 on(byId('stop'), 'click', stopWork);
 on(byId('stopped'), 'click', ({ target }) => 'met' in target.dataset && showMetBefore());

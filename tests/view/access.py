@@ -151,9 +151,26 @@ def editor_row(bench):
     return faults + safety(bench)
 
 
+def low_row(bench):
+    """Of eight long programs a low window has the next instruction and those around it; no step moves a buffer."""
+    bench.open_fresh(width=1280)
+    bench.window.resize(1280, 800)
+    bench.fill("test", EIGHT + "".join(" %s ;\n" % " | ".join([text] * 8) for text in ["LOCK CMPXCHG [z],ESI"] + ["MOV EBX,[z]"] * 5))
+    at = "[...document.querySelectorAll('.buffer')].map(each => Math.round(each.getBoundingClientRect().top + scrollY))"
+    bench.wait("document.querySelectorAll('.program.few').length === 8")
+    before, faults = bench.value(at), []
+    for count, choice in enumerate("0s 0d 0s 0s 0s 0s 0s".split()):
+        bench.value("document.querySelector('[data-choice=\"%s\"]').click()" % choice)
+        bench.wait("choicesText().trim().split(/\\s+/).length === %d" % (count + 1))
+        inside = bench.value("(next => [next.getBoundingClientRect(), next.parentElement.getBoundingClientRect()].map(({ top, bottom }) => [top, bottom]))(document.querySelector('.few [aria-current]'))")
+        faults += differs("after " + choice, [bench.value(at) == before, inside[1][0] - 1 <= inside[0][0] and inside[0][1] <= inside[1][1] + 1], [True, True])
+    return faults + safety(bench)
+
+
 def rows(page, folder):
     bench = Driver(page)
     return [
+        ("eight cores in a low window", lambda: low_row(bench)),
         ("nothing under the bar", lambda: under_row(bench)),
         ("the focus at an answer", lambda: focus_row(bench)),
         ("targets for fingers", lambda: targets_row(bench, folder)),

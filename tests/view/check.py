@@ -25,7 +25,7 @@ apt-get install -y --no-install-recommends chromium poppler-utils
 
 - What teaches: lessons, tasks, terms (teaching.py, lessons.py, beginners.py); the larger set of instructions (larger.py); tests of other programs (foreign.py); work that is long, undo, branches and ways
   back (working.py); a lecture, tables and forms (presenting.py); lists of tests (playlists.py) and a hall (hall.py); ways of edges that cross nothing, and what
-  moves (drawn_edges.py); ways that share no stretch (ways.py); what WCAG 2.2 AA asks, as far as a script sees it (access.py); looks and layout (layout.py).
+  moves (drawn_edges.py); ways that share no stretch (ways.py); fences that are needed (needed.py); what WCAG 2.2 AA asks, as far as a script sees it (access.py); looks and layout (layout.py).
 - In Firefox, where Debian's firefox-esr is there, some of these rows.
 
 The last line is 'N passed, M failed'.
@@ -56,6 +56,7 @@ import kept
 import larger
 import layout
 import machine
+import needed
 import playlists
 import presenting
 import reasons
@@ -133,7 +134,7 @@ def rows_of_reasons(page, room, folder):
 
 def rows_that_teach(page, folder):
     """The rows of what teaches; they ask for outcomes and for `why`, so they need a module that answers these."""
-    return [row for each in (teaching, larger, foreign, working, presenting, playlists, hall, drawn_edges, ways, access, layout, beginners) for row in each.rows(page, folder)]
+    return [row for each in (teaching, larger, foreign, working, presenting, playlists, hall, drawn_edges, ways, needed, access, layout, beginners) for row in each.rows(page, folder)]
 
 
 class Page:

@@ -80,7 +80,7 @@ def left_out_row(bench):
         else:
             every = bench.value("for (const each of [...document.querySelectorAll('.pick')].filter(each => /^P/.test(each.textContent))) each.click(); sheet.cycle.cycle.length")
             faults += differs("all cores of %d" % word, bench.value(DRAWN), all_cores)
-            is_said = bench.text(".drawn-part .buttons").startswith("Drawn are %d of %d arrows" % (every, every))
+            is_said = bench.text(".picks").startswith("Drawn are %d of %d arrows" % (every, every))
             faults += [] if is_said and every > edges else ["all arrows are %d" % edges]
         bench.value("backToRun()")
     return faults + safety(bench)
@@ -159,7 +159,7 @@ def enough_row(bench):
         faults += differs("enough", bench.text(".reason > p:nth-of-type(2)"), "0 in P0's EAX and 0 in P1's EAX are enough for that.")
     bench.load(reasons.text_of("SB+mfences"), "")
     key = "document.body.dispatchEvent(new KeyboardEvent('keydown', { key: '%s', ctrlKey: %s, bubbles: true })), [currentCommand(), byId('enter-asks').textContent]"
-    for name, is_ctrl, told in (("w", "false", ["why", "Ctrl+Enter: Why can or can't it be?"]), ("o", "false", ["outcomes", "Ctrl+Enter: Find all outcomes"]), ("Enter", "true", ["outcomes", "Ctrl+Enter: Find all outcomes"])):
+    for name, is_ctrl, told in (("w", "false", ["why", "Ctrl+Enter: Why can or can't it be? · Esc leaves the text"]), ("o", "false", ["outcomes", "Ctrl+Enter: Find all outcomes · Esc leaves the text"]), ("Enter", "true", ["outcomes", "Ctrl+Enter: Find all outcomes · Esc leaves the text"])):
         faults += differs("key " + name, bench.value(key % (name, is_ctrl)), told)
         faults += differs("under the test", bench.value(ASKS), ["Find all outcomes", "Why can or can't it be?"])
         bench.wait("!bench.task && document.querySelector('#states .answer-title')")
@@ -216,14 +216,14 @@ def picked_row(bench):
     bench.fill("test", BIG)
     bench.value("askWhy()")
     bench.wait("!bench.task && document.querySelector('.reason .drawn-part')")
-    few, every = bench.value("[sheet.cycle.cycle.length, Number(/of (\\d+) arrows/.exec(document.querySelector('.drawn-part > p').textContent)[1])]")
+    few, every = bench.value("[sheet.cycle.cycle.length, Number(/of (\\d+) arrows/.exec(document.querySelector('.picks').textContent)[1])]")
     faults = differs("at first", bench.value(PICKED % "() => true")[2], 0) + ([] if few <= 24 < every else ["of %d arrows %d are drawn" % (every, few)])
-    faults += differs("no box draws all", "Draw all" in bench.text(".drawn-part > p"), False)
+    faults += differs("no box draws all", "Draw all" in bench.text(".picks"), False)
     press = "[...document.querySelectorAll('.pick')].find(each => each.textContent === '%s').click(), %s"
     at_core, at_both = "({ from, to }) => [from, to].some(each => each.startsWith('P2'))", "({ from, to }) => [from, to].some(each => each.startsWith('P2')) && / y/.test(from)"
     core, both, left = (bench.value(press % (name, PICKED % form)) for name, form in (("P2", at_core), ("[y]", at_both), ("P2", "({ to }) => / y/.test(to)")))
     faults += differs("picked", [core[1:], both[1:], left[1:]], [[True, 1], [True, 2], [True, 1]]) + ([] if 0 < both[0] < core[0] < every else ["%s of %d arrows" % ([core, both], every)])
-    faults += differs("what is said", bench.text(".drawn-part > p > span"), "Drawn are %d of %d arrows, those at what is picked. Program order that TSO keeps has none." % (left[0], every))
+    faults += differs("what is said", bench.text(".picks span"), "Drawn are %d of %d arrows, those at what is picked. Program order that TSO keeps has none." % (left[0], every))
     faults += differs("none again", bench.value(press % ("[y]", PICKED % "() => true")), [few, True, 0])
     return faults + safety(bench)
 
@@ -237,14 +237,14 @@ def ring(size):
 
 
 def many_terms_row(bench):
-    """A condition of many terms isn't a heading: they stand below it. Of more arrows than a few those of one cycle are drawn first, and all by one press. A hint of a limit has a line for
+    """A condition of many terms isn't a heading: it stands below it as it is written. Of more arrows than a few those of one cycle are drawn first, and all by one press. A hint of a limit has a line for
     each sentence."""
     bench.open_fresh(width=1280)
     bench.fill("test", ring(8))
     bench.value("askWhy()")
     bench.wait("!bench.task && document.querySelector('.reason .drawn-part')")
-    said = "[...document.querySelectorAll('#states [role=status] > strong, #states details.small[open] > summary')].map(each => each.textContent)"
-    faults = differs("why", bench.value(said), ["Yes: a run ends so.", "What is asked for: 8 values"])
+    said = "[...document.querySelectorAll('#states [role=status] > strong, #states .condition')].map(each => each.textContent)"
+    faults = differs("why", bench.value(said), ["Yes: a run ends so.", "exists (%s)" % " /\\ ".join("%d:EAX=0" % core for core in range(8))])
     faults += differs("the task", bench.value("taskSentence('', readTest(inputOf('why')).proposition, 'exists', [])"), "End as the condition asks, with 8 values.")
     drawn = "[sheet.cycle.cycle.length, sheet.cycle.closed]"
     faults += differs("arrows", [bench.value(drawn), bench.value("document.querySelector('.pick[value=P]').click(), " + drawn)], [[8, 8], [12, 0]])
@@ -323,8 +323,8 @@ def claims_row(bench):
     for test, said in ((ring(4), "P3 read a before memory saw its store to d. " + advice), (WIDE_RING, advice + " In another run that ends so, other loads may pass.")):
         bench.fill("test", test)
         bench.value("askWhy()")
-        bench.wait("!bench.task && document.querySelector('.passing')")
-        faults += [] if bench.text(".passing").endswith(said) else [bench.text(".passing")]
+        bench.wait("!bench.task && document.querySelector('.how-read .passing')")
+        faults += [] if bench.text(".how-read .passing").endswith(said) else [bench.text(".how-read .passing")]
     return faults + safety(bench)
 
 
@@ -357,7 +357,7 @@ def limit_row(bench):
     bench.wait("!bench.task && document.querySelector('.reason .cycle')")
     bench.value("byId('report-part').open = true; byId('as-printed').click(); showFormat()")
     bench.wait("byId('report').textContent.includes('implied')")
-    bench.wait("document.querySelector('.report-key')?.textContent.includes('“implied” is “lock” in the picture')")
+    bench.wait("byId('report-note').textContent.includes('“implied” is “lock” in the picture')")
     return faults + safety(bench)
 
 

@@ -24,7 +24,7 @@ def faults_of_dead(bench, word, step):
     if stalls:
         bench.value("document.querySelector('[data-choice=\"%s\"]').click()" % word)
         faults += differs("after a dead button", bench.value("[drive.words, drive.count]"), before)
-        faults += [] if "does nothing" in bench.text("#sentence") else ["it says " + bench.text("#sentence")]
+        faults += [] if "So nothing happens." in bench.text("#sentence") else ["it says " + bench.text("#sentence")]
         faults += differs("it offers to stall", bench.value(SHOWN)[0]["cores"][core]["offers"][way], True)
     return faults
 

@@ -90,7 +90,7 @@ def written_row(bench):
         bench.open_fresh()
         bench.fill("test", text)
         if text == SPREAD:
-            faults += differs("before", bench.text("#to-write"), "Changes: P0: INC [x] becomes MOV EBX,[x], INC EBX and MOV [x],EBX (another meaning); P1: add DWORD PTR x[rip], 1 becomes MOV EAX,[x], ADD EAX,$1 and MOV [x],EAX (another meaning). ")
+            faults += differs("before", bench.text("#to-write"), "Changes: P0: INC [x] becomes MOV EBX,[x], INC EBX and MOV [x],EBX (in steps: another core can act between them); P1: add DWORD PTR x[rip], 1 becomes MOV EAX,[x], ADD EAX,$1 and MOV [x],EAX (in steps: another core can act between them). ")
         faults += differs("offered", bench.value("[byId('plain').textContent.startsWith(%s), byId('write-so').hidden, byId('write-so').textContent]" % json.dumps(plain)), [True, False, button])
         bench.value("byId('write-so').click()")
         faults += differs("written", bench.value("byId('test').value"), written)
@@ -124,12 +124,30 @@ def sight_row(bench):
 C_FUNCTIONS = "#include <atomic>\nstd::atomic<int> x{0}, y{0};\nint r0, r1;\nvoid t0()\n{\n  x.store(1, std::memory_order_relaxed);\n  r0 = y.load();\n}\nvoid t1() { y = 1; r1 = x; }\n"
 
 
+HERDS = "C cas\n{ [x]=2; }\nP0(atomic_int* x, int* y) {\n int r0;\n atomic_store_explicit(x, 1, memory_order_relaxed);\n r0 = *y;\n}\nP1(atomic_int* x, int* y) { *y = 1; int r1 = atomic_load(x); }\nexists (0:r0=0 /\\ 1:r1=0)\n"
+
+
+def told_c_row(bench):
+    """A C test of herd7 becomes a test by one press, with its name and initial words. Of C that can't be taken the line is named, and a missing ; by its line."""
+    bench.open_fresh()
+    bench.fill("test", HERDS)
+    faults = differs("said", bench.value("[byId('plain').textContent, (writeRepairs(), byId('test').value)]"), ["Line 1: this is C.",
+                     "X86 cas\n{ [x]=2; }\n P0          | P1          ;\n MOV [x],$1  | MOV [y],$1  ;\n MOV EAX,[y] | MOV EAX,[x] ;\nexists (0:EAX=0 /\\ 1:EAX=0)\n"])
+    jumps = "Line %d: if can't be written: a test has no jumps."
+    for text, said in (("P0: x=1; r0=y;\nP1: if (x==0) r1=0;\n", jumps % 2), ("void t0() {\n  x = 1;\n  if (y == 0) {\n    r0 = 1;\n  }\n}\n", jumps % 3), (HERDS.replace(" r0 = *y", " if (y) r0 = 1"), jumps % 6),
+                       ("x=1; | y=1;\nr0=y; | f(x);\n", "Line 2: “f(x)” isn't understood. Write x = 1, r0 = y or fence, with ; between them and | between threads.")):
+        bench.fill("test", text)
+        faults += differs(text, bench.value("[byId('plain').textContent, byId('write-so').hidden]"), [said, True])
+    bench.fill("test", "X86 SB\n{ }\n P0 | P1 ;\n MOV [x],$1 | MOV [y],$1 ;\n MOV EAX,[y] | MOV EAX,[x]\nexists (0:EAX=0)\n")
+    return faults + differs("a row's end", bench.text("#write-so"), "Write ; at the end of line 5") + safety(bench)
+
+
 def frameless_row(bench):
     """Rows of C alone become a test by one press, and threads of C in lines, in functions or below labels, with a condition where they have none; rows of different lengths are left alone. It says what was added above them."""
     bench.open_fresh()
     faults = []
     for text, added in (("X86 mine\nx=1; | y=1;\nr0=y; | r1=x;\nexists (0:r0=0 /\\ 1:r1=0)\n", "Written: { } and the row of cores added; "), ("P0 | P1 ;\nx=1 | y=1 ;\nr0=y | r1=x ;\nexists (0:r0=0 /\\ 1:r1=0)\n", "columns lined up; a name, { } added; "),
-                        ("x=1; r0=y\nT2: y := 1; r1 = x;\nexists (0:r0=0 /\\ 1:r1=0)\n", "Written: a name, { } and the row of cores added; "), ("Thread 1 || Thread 2\nx := 1 || y := 1\nr0 := y || r1 := x\nexists (0:r0=0 /\\ 1:r1=0)\n", "a name, { } added; "), ("P0 || P1\nx=1 || y=1\nr0=y || r1=x\nexists (0:r0=0 /\\ 1:r1=0)\n", "Written: a name, { } added; "), ("x=1; r0=y || y=1; r1=x\nexists (0:r0=0 /\\ 1:r1=0)\n", "Written: a name, "), (C_FUNCTIONS, "Written: a name, { } and the row of cores added; "), ("P0:\n x=1;\n r0=y;\nP1:\n y=1\n r1=x\n", "Ctrl+Z takes it back. Write into exists"), ("int z = 5;\n" + C_FUNCTIONS, None), ("x=1 | y=1 ;\nr0=y ;\n", None), ("x=1;\nf(x);\n", None)):
+                        ("x=1; r0=y\nT2: y := 1; r1 = x;\nexists (0:r0=0 /\\ 1:r1=0)\n", "Written: a name, { } and the row of cores added; "), ("Thread 1 || Thread 2\nx := 1 || y := 1\nr0 := y || r1 := x\nexists (0:r0=0 /\\ 1:r1=0)\n", "a name, { } added; "), ("P0 || P1\nx=1 || y=1\nr0=y || r1=x\nexists (0:r0=0 /\\ 1:r1=0)\n", "Written: a name, { } added; "), ("x=1; r0=y || y=1; r1=x\nexists (0:r0=0 /\\ 1:r1=0)\n", "Written: a name, "), (C_FUNCTIONS, "Written: a name, { } and the row of cores added; "), ("P0:\n x=1;\n r0=y;\nP1:\n y=1\n r1=x\n", "Ctrl+Z takes it back. The last line asks: can both loads read 0? Change it"), ("int z = 5;\n" + C_FUNCTIONS, None), ("x=1 | y=1 ;\nr0=y ;\n", None), ("x=1;\nf(x);\n", None)):
         bench.fill("test", text)
         faults += differs("offered for %r" % text, bench.value("!byId('write-so').hidden"), added is not None)
         if added:
@@ -310,4 +328,4 @@ def told_row(bench):
 def rows(page, folder):
     bench = Driver(page)
     return [("columns of a line of locations", lambda: locations_row(bench)), ("what compilers print, written by one press", lambda: written_row(bench)),
-            ("rows of C alone", lambda: frameless_row(bench)), ("mistakes in eight by eight", lambda: mistakes_row(bench)), ("threads of C in one line", lambda: threads_row(bench)), ("a refused line comes into sight", lambda: sight_row(bench)), ("an old answer while a search works", lambda: dimmed_row(bench)), ("a wide table of outcomes", lambda: wide_row(bench)), ("outcomes in the form of herd7", lambda: herd_row(bench)), ("answers of a test without a condition, and of claims", lambda: told_row(bench))]
+            ("rows of C alone", lambda: frameless_row(bench)), ("C of herd7, and C that can't be taken", lambda: told_c_row(bench)), ("mistakes in eight by eight", lambda: mistakes_row(bench)), ("threads of C in one line", lambda: threads_row(bench)), ("a refused line comes into sight", lambda: sight_row(bench)), ("an old answer while a search works", lambda: dimmed_row(bench)), ("a wide table of outcomes", lambda: wide_row(bench)), ("outcomes in the form of herd7", lambda: herd_row(bench)), ("answers of a test without a condition, and of claims", lambda: told_row(bench))]

@@ -1,6 +1,9 @@
 """Rows for a lecture that keys lead, for names there, and for a small screen in a hall."""
-from bench import differs, safety
+import os
+
+from bench import READY, differs, safety
 from driver import Driver
+from kept import saved_page
 from playlists import CLICKED
 from teaching import press
 
@@ -97,9 +100,35 @@ def letters_row(bench):
         bench.window.resize(width, height)
         bench.value("putLecture(true); loadText('false-sharing.litmus'); putBeside(JSON.stringify(ABREAST)); putLed(true)")
         style = "getComputedStyle(byId('driving'), '::after')"
-        found = bench.value("[/O owned.*≠: differs from MSI/.test(%s.content), %s.height.split('p')[0] < byId('driving').offsetHeight, getComputedStyle(byId('ask-why')).opacity, document.documentElement.scrollHeight]" % (style, style))
+        found = bench.value("[/O owned.*Framed: differs from MSI/.test(%s.content), %s.height.split('p')[0] < byId('driving').offsetHeight, getComputedStyle(byId('ask-why')).opacity, document.documentElement.scrollHeight]" % (style, style))
         faults += differs("at %d by %d" % (width, height), found, [True, True, "0", height])
         faults += differs("with the mouse", bench.value("putLed(false), [%s.content, getComputedStyle(byId('ask-why')).opacity]" % style), ["none", "1"])
+    return faults + safety(bench)
+
+
+STEPS = {"store-buffering": "0s 1s 0s 1s 0d 1d", "store-buffering-fenced": "0s 0d 0s 0s 1s 1d 1s 1s", "false-sharing": "0s 0d 1s 1d 0s 0d 1s"}
+MOVED = """(places => places[0].filter((_, at) => Math.max(...places.map(each => each[at])) - Math.min(...places.map(each => each[at])) > 2).length)([...drive.words, ''].map((_, count) => (goTo(count),
+    [...document.querySelectorAll('.core, .core h5, .choice, .buffer, .memory, #frame, #verdict')].filter(each => each.checkVisibility()).map(each => each.getBoundingClientRect().top))))"""
+
+
+def unmoved_row(bench):
+    """In a lecture no part moves between the steps of an entry, alone and with four protocols; what the misses come to is the bold line, and nothing stands twice."""
+    faults = []
+    for width, height in ((1920, 1080), (1280, 720)):
+        bench.open_fresh(width=width)
+        bench.window.resize(width, height)
+        for (name, words), beside in [*((step, "null") for step in STEPS.items()), (("false-sharing", STEPS["false-sharing"]), "ABREAST")]:
+            bench.value("putLecture(true); loadText('%s.litmus'); putBeside(JSON.stringify(%s)); putChoices('%s'); answerNow()" % (name, beside, words))
+            faults += differs("%s, %s, at %d" % (name, beside, width), bench.value("[%s, document.documentElement.scrollHeight]" % MOVED), [0, height])
+            if beside == "ABREAST":
+                faults += differs("one clause", bench.value("(goTo(4), byId('sentence').textContent)"), "P1's store y=1 left its buffer. GetM x, y: P0 sent its copy, which became invalid.")
+                bench.value("goTo(drive.words.length)")
+        said = bench.value("[document.querySelector('#sentence > strong').textContent.trim(), byId('sentence').textContent.split('core. ')[1], [...document.querySelectorAll('.said')].some(each => each.checkVisibility()), byId('verdict').textContent, document.querySelector('.tally').textContent.replace(/\\s/g, ' ')]")
+        faults += differs("the end", said, ["4 of 4 accesses missed: x and y share a line, and 3 of them took it from the other core.", "P1 read y=1 from P0's cache. GetS x, y went on the bus. Under MOESI and MOSI: P0 keeps the line as its owner.", False, "", "4 misses, 1 flush"])
+        for name, words in (("false-sharing", STEPS["false-sharing"]), ("false-sharing-loads", "0s 1s 0s 0d 1s 1d")):
+            bench.value("loadText('%s.litmus'); settingOf('words').value = '1'; putChoices('%s'); answerNow()" % (name, words))
+            faults += differs("%s, one word a line, at %d" % (name, width), bench.value("[%s, document.documentElement.scrollHeight]" % MOVED), [0, height])
+    bench.value("putLecture(false)")
     return faults + safety(bench)
 
 
@@ -144,7 +173,7 @@ def named_in_hall(bench):
 
 
 def outcomes_asked_row(bench):
-    """In a lecture the question stands over all outcomes too, which come one by one before the answer, and C's names aren't there."""
+    """In a lecture the question stands over all outcomes too, which come one by one, what is sought with the answer, and C's names aren't there."""
     bench.open_fresh()
     bench.value("loadText('store-buffering.litmus'); addToList(); loadText('MP.litmus'); addToList(); putLecture(true); openListed(0); findOutcomes()")
     bench.wait("!bench.task && document.querySelector('.states-sheet')")
@@ -152,11 +181,12 @@ def outcomes_asked_row(bench):
     faults = differs("asked", bench.value(asked), ["Can both loads read 0?", True])
     parts = "[footSaid(), ...['.states-sheet .met', '[role=status] > .is-yes'].map(each => document.querySelector('#states ' + each).checkVisibility({ visibilityProperty: true }))]"
     turns = [bench.value(parts)]
-    for _ in range(5):
+    for _ in range(4):
         bench.value(CLICKED % "PageDown")
         turns.append(bench.value(parts))
-    said = ["PageDown shows outcome %d of 4" % at for at in (1, 2, 3, 4)] + ["PageDown shows the answer", "PageDown: the run goes on"]
-    faults += differs("one by one", turns, [[each, at > 3, at > 4] for at, each in enumerate(said)])
+    said = ["PageDown shows outcome %d of 4" % at for at in (1, 2, 3)] + ["PageDown shows the answer", "PageDown: the run goes on"]
+    faults += differs("one by one", turns, [[each, at > 3, at > 3] for at, each in enumerate(said)])
+    faults += differs("what no hall knows", bench.value("[...document.querySelectorAll('.states-sheet thead th, .of-choices, .goes')].filter(each => each.checkVisibility()).map(each => each.innerText)"), ["Under", "Condition", "0:EAX", "1:EAX", ""])
     faults += differs("C", bench.value("getComputedStyle(document.querySelector('.states-sheet th[data-c]'), '::after').content"), "none")
     bench.value("openListed(0)")
     faults += differs("in a register", bench.value("document.querySelector('.registers').innerText.replace(/\\s/g, '')"), "EAX=0")
@@ -284,20 +314,58 @@ def hidden_reason_row(bench):
         faults += differs("light again", bench.value(dark), [False, where])
     bench.value("openListed(1)")
     faults += differs("what is shared", bench.value("byId('test-line').dataset.lines"), ": x and y in one line")
-    bench.value("taught.list[1].name = 'Own'; goTo(0)")
+    bench.value("settingOf('words').value = 1; byId('settings').dispatchEvent(new Event('input')); putBeside(JSON.stringify(ABREAST)); goTo(drive.words.length); true")
+    faults += differs("a line each", bench.value("[byId('test-line').dataset.lines, sharedLine(firstHistory(), drive.count)]"), [": x and y in a line each", " 2 of 4 accesses missed. None took a line from the other core."])
+    bench.value("loadText('false-sharing-loads.litmus'); true")
+    faults += differs("where each protocol differs", bench.value("[byId('asked-line').textContent, byId('verdict').textContent]"), ["How do the protocols differ?", ""])
+    bench.value("openListed(1); taught.list[1].name = 'Own'; goTo(0)")
     faults += differs("what is asked", bench.text("#sentence"), "The machine at its start. Each core uses its own word alone: why does each access miss?")
     bench.value("putLecture(false)")
     return faults + safety(bench)
 
 
-def rows(page, _):
+def prepared_row(bench, folder):
+    """A run is added as far as it came; its reason has a tick; one word a line follows several; the lecture's name is its file's and its tab's, and it starts at any entry."""
+    bench.open_fresh()
+    bench.value("putChoices('0s 1s 0s 1s 0d 1d'); answerNow(); goTo(4); addToList(); loadText('false-sharing.litmus'); putBeside(JSON.stringify(ABREAST))")
+    faults = differs("a part", [bench.text("#list li").split("take off")[1], bench.value("taught.list[0].address.includes('0d')")], [" 4 choices  with its reason, by arrows", False])
+    faults += differs("what adds it, in sight", bench.value("boxOf(document.querySelector('#list-bar [data-add-to-list]')).top >= 0 && boxOf(byId('machines')).bottom <= innerHeight"), True)
+    place = bench.value("scrollY")
+    press(bench, "#list-bar [data-add-to-list]")
+    faults += differs("said at the bar", bench.value("[scrollY, query('#list-bar span').textContent, query('#list-bar [data-add-padded]') !== null, byId('add-to-list').textContent]"), [place, "Added as 2: False sharing: the run, four protocols", True, "Add to the lecture"])
+    press(bench, "#listed [data-add-padded]")
+    faults += differs("one word a line", bench.value("[taught.list[2].name, valueOf('words'), drive.beside, playlist.at, !query('#list-bar [data-add-to-list]')]"), ["False sharing, one word a line", 1, "protocols", 2, True])
+    bench.value("byId('list-part').open = true; byId('list-name').value = 'Caches - week 3'; byId('list-name').dispatchEvent(new Event('change', { bubbles: true }))")
+    press(bench, "#list [data-reason]")
+    name, text = saved_page(bench, "SAVES.page()")
+    path = os.path.join(folder, "prepared.html")
+    with open(path, "w") as file:
+        file.write(text)
+    bench.window.open("file://" + path)
+    bench.value(READY)
+    bench.wait("drive.isOn")
+    bench.value("goTo(4)")
+    faults += differs("the lecture's name", bench.value("byId('asked-line').dataset.place"), "1 of 3 · Caches - week 3")
+    faults += differs("saved", [name, *bench.value("[document.title.split(' \u2013')[0], isLecture(), footSaid(), byId('list-kept').textContent]")],
+                      ["caches-week-3.html", "Caches - week 3", True, "PageDown: next, False sharing", "Saved. After a change save it again:"])
+    bench.value("putLecture(false); openListed(1)")
+    faults += differs("changed", bench.value("taught.list[1].name = 'a', drawList(), byId('list-kept').textContent"), "Closing this tab loses the changes:")
+    press(bench, "#list-bar [data-start]")
+    faults += differs("from the second", bench.value("[isLecture(), playlist.at]"), [True, 1])
+    bench.value("putLecture(false)")
+    bench.window.requests.clear()
+    return faults + safety(bench)
+
+
+def rows(page, folder):
     bench = Driver(page)
     return [
         ("a clicker that leads", lambda: led_row(bench)),
-        ("a press on the ground of a lecture", lambda: unpressed_row(bench)),
+        ("a press on the ground of a lecture", lambda: unpressed_row(bench)), ("a lecture that is prepared", lambda: prepared_row(bench, folder)),
         ("a clicker that nothing traps", lambda: never_trapped_row(bench)),
         ("a lecture that goes on", lambda: resumed_row(bench)), ("a clicker and four protocols", lambda: hidden_reason_row(bench)),
         ("a clicker all the way back", lambda: reverse_row(bench)),
+        ("steps of a lecture that move nothing", lambda: unmoved_row(bench)),
         ("buffers in a lecture of 1024 by 768", lambda: narrow_row(bench)), ("letters below four protocols", lambda: letters_row(bench)),
         ("a name in a list", lambda: renamed_row(bench)),
         ("outcomes and their question", lambda: outcomes_asked_row(bench)),

@@ -13,6 +13,7 @@ from bench import BORDERS, DIVIDING_LINE, EXAMPLES, READY, TESTS, differs, read,
 from driver import Driver
 
 OTHER = read(EXAMPLES, "own-store-first.litmus")
+MOST_BYTES = 1_300_000
 SAVED = "new Promise((done, failed) => { saveFile = (name, blob) => blob.text().then(text => done([name, text]), failed); %s })"
 
 
@@ -22,11 +23,12 @@ def saved_page(bench, press):
 
 
 def faults_of_form(text):
-    """A saved page asks for nothing beside it, and its policy allows the scripts and styles that stand in it alone."""
+    """A saved page isn't large, asks for nothing beside it, and its policy allows the scripts and styles that stand in it alone."""
     policy = re.search(r'http-equiv="Content-Security-Policy" content="([^"]*)"', text).group(1)
     scripts = re.search(r"script-src ([^;]*);", policy).group(1).split(" ")
     faults = [] if "default-src 'none'" in policy and all(each.startswith("'sha256-") or each == "'wasm-unsafe-eval'" for each in scripts) else ["its policy is " + policy[:300]]
     faults += ["it has " + found for found in re.findall(r"<(?:script|link) [^>]*(?:src|href)=[^>]*>", text.partition("<body>")[0] + re.sub(r"(?s)<script>.*?</script>", "", text))]
+    faults += [] if len(text.encode()) <= MOST_BYTES else ["it has %d bytes" % len(text.encode())]
     return faults + ([] if text.isascii() or "<meta charset=\"utf-8\">" in text else ["it doesn't say how it is coded"])
 
 

@@ -109,9 +109,12 @@ def still_lecture_row(bench):
     bench.wait("!bench.task && document.querySelector('.reason')")
     seen = "['#way-back [data-add-to-list]', '.in-tables table'].map(each => document.querySelector(each)?.getClientRects().length ?? 0)"
     faults += differs("tools and tables", bench.value(seen), [0, 0])
+    wide = "document.querySelector('.cycle .picture').viewBox.baseVal.width"
+    scale = bench.value(wide)
     bench.fill("test", test_of("SB+mfences"))
     bench.value("askWhy()")
     bench.wait("!bench.task && document.querySelector('.cycle')")
+    faults += differs("the scale of two cores' arrows", bench.value(wide), scale)
     end = "getComputedStyle(document.querySelector('.tree .step-leaf')).visibility"
     found = [bench.value(end)]
     for _ in range(4):

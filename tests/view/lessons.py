@@ -3,13 +3,16 @@
 from bench import READY, differs, safety
 
 
+HAS_READ = "putLesson({ since: -TYPED_AHEAD })" # half a second after a question appeared
+
+
 def press(bench, selector):
     bench.window.click(selector)
 
 
 def guided_row(bench):
-    """A choice that the lesson doesn't wait for is made, and one press leads back; while a question waits none is. The lesson's own next choice is made in
-    the place of Next; Back leads to the step before; a reload stays; leaving frees the machine."""
+    """A choice that the lesson doesn't wait for is made, and one press leads back; while a question waits or comes next none is. The lesson's own next choice is
+    made in the place of Next; Back leads to the step before; a reload stays; leaving frees the machine."""
     bench.open_fresh()
     press(bench, "#first-lesson")
     faults = differs("the focus", bench.value("document.activeElement.id"), "lesson-next")
@@ -33,7 +36,11 @@ def guided_row(bench):
     ahead = "[lesson.told.name, lesson.at, lesson.isStrayed, drive.words, byId('lesson-after').textContent]"
     bench.value("enterStep(6)")
     press(bench, "[data-choice='1s']")
-    faults += differs("the lesson's own next choice, before its question", bench.value(ahead), ["store-buffering", 7, False, ["0s", "1s", "0s"], ""])
+    pale = "new Set([...document.querySelectorAll('[data-choice]')].map(each => getComputedStyle(each).borderColor)).size"
+    faults += differs("where Next comes to a question", bench.value("[lesson.at, drive.words.length, %s, %s]" % (FOCUS, pale)), [6, 3, "lesson-next", 1])
+    bench.value("enterStep(4); driveByKey('0')")
+    faults += differs("a digit before one can have read", bench.value("[lesson.isDone, drive.core]"), [False, 0])
+    faults += differs("and after", bench.value(HAS_READ + "; driveByKey('0'); lesson.answer"), "0")
     bench.value("beginLesson('false-sharing')")
     press(bench, "[data-choice='0s']")
     faults += differs("the lesson's own next choice, in the place of Next", bench.value(ahead)[:4], ["false-sharing", 4, False, ["0s"]])
@@ -78,6 +85,7 @@ def focus_row(bench):
     faults += differs("after Enter", bench.value("[%s, lesson.isDone]" % FOCUS), ["lesson-said", False])
     bench.value(press_key % "ArrowRight")
     faults += differs("after an arrow", bench.value("document.activeElement.dataset.answer"), "Yes")
+    bench.value(HAS_READ)
     bench.press("2")
     faults += differs("after the key 2", bench.value("[%s, lesson.answer]" % FOCUS), ["0s", "No"])
     bench.value("enterStep(1)")
@@ -89,6 +97,7 @@ def focus_row(bench):
     faults += differs("after all outcomes", bench.value("[%s, document.querySelector('[data-show]').matches('.main')]" % FOCUS), ["lesson-next", False])
     bench.value("enterStep(4)")
     faults += differs("the keys", bench.value("[...document.querySelectorAll('[data-answer]')].map(each => [each.getAttribute('aria-keyshortcuts'), each.textContent])"), [["0", "0"], ["1", "1"]])
+    bench.value(HAS_READ)
     bench.press("1")
     faults += differs("the digit itself", bench.value("lesson.answer"), "1")
     outlined = "[...document.querySelectorAll('[data-answer]')].map(each => getComputedStyle(each).outlineStyle)"
@@ -165,12 +174,14 @@ def own_test_row(bench):
 
 
 def keys_row(bench):
-    """The key e opens the test, and Escape leaves its field, whatever works; the focus goes with the core that keys act on; arrow keys step the arrows of an answer, and Escape leads back to the run."""
+    """The key e opens the test, and Escape leaves its field, whatever works, and then its panel; the focus goes with the core that keys act on; arrow keys step the arrows of an answer, and Escape leads back to the run."""
     bench.open_fresh(width=1280)
     bench.value("document.body.dispatchEvent(new KeyboardEvent('keydown', { key: 'e', bubbles: true })); true")
     faults = differs("the test", bench.value("[byId('test-part').open, document.activeElement.id]"), [True, "test"])
     bench.window.press("Escape")
     faults += differs("left", bench.value("document.activeElement.parentElement.id"), "test-part")
+    bench.window.press("Escape")
+    faults += differs("closed", bench.value("[byId('test-part').open, document.activeElement.parentElement.id]"), [False, "test-part"])
     leave = "(field => (field.focus(), ask('outcomes'), field.dispatchEvent(new KeyboardEvent('keydown', { key: 'Escape', bubbles: true })), [document.activeElement.parentElement.id, bench.task !== null]))(byId('test'))"
     faults += differs("left while it works", bench.value(leave), ["test-part", True])
     bench.wait("!bench.task")
@@ -180,7 +191,7 @@ def keys_row(bench):
     bench.value("byId('test-part').open = true; byId('test-part').firstElementChild.focus(); true")
     at_answer = "[document.activeElement.className, Math.round(byId('way-back').getBoundingClientRect().top) < innerHeight / 2, byId('test-part').open]"
     for act in ("o", "w", "outcomes"): # from the test that is open a key leads to the answer, and so does a button below the test
-        pressed = "document.activeElement.dispatchEvent(new KeyboardEvent('keydown', { key: '%s', bubbles: true }))" if len(act) == 1 else "backToRun(); document.querySelector('#asks-here [data-ask=%s]').click()"
+        pressed = "document.activeElement.dispatchEvent(new KeyboardEvent('keydown', { key: '%s', bubbles: true }))" if len(act) == 1 else "backToRun(); byId('test-part').open = true; document.querySelector('#asks-here [data-ask=%s]').click()"
         bench.value(pressed % act)
         bench.wait("!bench.task && document.activeElement.matches('#states .answer-title')")
         faults += differs(act, bench.value(at_answer), ["answer-title", True, True])
@@ -192,6 +203,7 @@ def keys_row(bench):
         bench.window.press(key)
         shown.append(bench.value("sheet.cycle.shown"))
     faults += differs("arrows", shown, [1, 2, 1, 4])
+    bench.value("byId('keys').firstElementChild.focus()")
     bench.window.press("Escape")
     return faults + differs("the run", bench.value("[byId('run').hidden, document.activeElement.matches('#machines h3')]"), [False, True]) + safety(bench)
 

@@ -22,6 +22,9 @@ LONG_SEARCH = ("X86 slow\n{ }\n P0 | P1 | P2 | P3 ;\n"
                + "".join(" %s ;\n" % " | ".join("MOV %s,[%s]" % (name, "xyzw"[(core + at) % 4]) for core in range(4)) for at, name in enumerate(("EAX", "EBX", "ECX"), 1))
                + "exists (%s)\n" % " /\\ ".join("%d:%s=9" % (core, name) for core in range(4) for name in ("EAX", "EBX", "ECX")))
 
+# A search of some thousand states, with and without store buffers.
+CHAIN = "X86 chain\n{ }\n P0 | P1 | P2 | P3 ;\n" + 2 * (" %s ;\n" % " | ".join("MOV [%s],$%d" % (name, at) for at, name in enumerate("xyzw", 1))) + " MOV EAX,[y] | MOV EAX,[z] | MOV EAX,[w] | MOV EAX,[x] ;\nexists (0:EAX=0)\n"
+
 
 def first_row(bench, folder):
     bench.open()
@@ -185,7 +188,17 @@ def faults_of_met(bench, found):
     bench.value("everMet.asks = null, showMet({ status: 3, text: %s, hint: '' }, 32)" % json.dumps(json.dumps(told)))
     said = bench.value("[...document.querySelectorAll('#states > p')].map(each => each.textContent).join(' ')")
     faults = differs("rows of the table of some states", bench.value("document.querySelectorAll('#states tbody tr').length"), 2)
-    return faults + differs("some states", [said.startswith("Yes: both loads read 0 in a run."), " The search kept 3 states" in said, "It met 2 of the outcomes." in said, "Ok" in said], [True] * 4)
+    return faults + differs("some states", [said.startswith("Yes: both loads read 0 in a run."), " The search kept 3 states" in said, "It met 2 of the outcomes." in said, "Ok" in said], [True] * 4) + faults_of_missed(bench, found)
+
+
+def faults_of_missed(bench, found):
+    """Whether what a search met without the run that why has found is told apart from that, in the table and beside the text."""
+    told = {"met": [state for state in found["states"] if not state["holds"]][:2], "test": found["test"], "unfinished": {"states": 3}, "verdict": None}
+    way = next(state for state in found["states"] if state["holds"])
+    bench.value("noteAnswer(inputOf('why'), %s)" % json.dumps({"answer": "allowed", "choices": way["choices"], "values": way["values"], "asked": {"truth": True}}))
+    bench.value("everMet.asks = null, showMet({ status: 3, text: %s, hint: '' }, 32), showFormat()" % json.dumps(json.dumps(told)))
+    said = bench.value("[document.querySelector('.filtered').textContent, byId('report-note').textContent.trim(), byId('report-note').querySelector('button').dataset.ask]")
+    return differs("beside why's run", said, ["3 rows: 2 met, and the one of “Why”", "This is the search alone. That it can be is the answer of “Why”: its text has the run.", "why"])
 
 
 def verdict_row(bench):
@@ -227,7 +240,7 @@ def counts_row(bench):
     """Counts of many runs are a table of what the program counts; runs that didn't end are named, and where none ended there is no table."""
     bench.open()
     if not bench.value("document.querySelector('#commands input[value=counts]') !== null"):
-        return ["the module answers no counts"] if bench.value("tellsCounts(bench.tso)") else []
+        return ["the module answers no counts"] if bench.value("answersTo(bench.tso, 'counts')") else []
     test = read(EXAMPLES, FIRST).partition(DIVIDING_LINE)[0]
     bench.choose("counts")
     bench.fill("set-protocol", "moesi")
@@ -259,6 +272,26 @@ def stop_row(bench):
     bench.choose("run")
     bench.fill("test", read(EXAMPLES, FIRST).partition(DIVIDING_LINE)[0])
     return faults + differs("a run after it", bench.page.is_drawn(), True) + safety(bench)
+
+
+def compared_row(bench):
+    """Of a search that is stopped while sequential consistency is searched, or why is asked, what was found of the test itself counts: the whole answer, where it has one."""
+    bench.open()
+    bench.fill("test", CHAIN)
+    bench.value("window.told = [], tellProgress = (tell => progress => { told.push([progress.pass, progress.before.map(({ status }) => status)]); tell(progress); })(tellProgress), ask('outcomes'), true")
+    bench.wait("!bench.task && document.querySelector('.states-sheet')")
+    faults = differs("told of the second pass", bench.value("told.filter(([pass]) => pass > 0).map(([, before]) => before.join())").count("0") > 0, True)
+    bench.fill("test", read(EXAMPLES, FIRST).partition(DIVIDING_LINE)[0])
+    stopped = "beginWorking(), bench.task = { stop() {} }, tellProgress({ command: '%s', pass: 1, before: [bench.tso.answer({ command: '%s', json: true%s }, inputOf('why'))], count: 0, next: 2000, most: 9000 }), byId('stop').click(), true"
+    bench.choose("outcomes")
+    bench.value(stopped % ("outcomes", "outcomes", ", depth: 32"))
+    faults += differs("outcomes", bench.text("#states > [role=status]"), "Yes: both loads read 0 in 1 of 4 outcomes under TSO. Without store buffers (SC) the search was stopped: “Why …?” compares them.")
+    bench.choose("why")
+    bench.value(stopped % ("why", "why", ""))
+    faults += differs("why", [bench.text(".reason > [role=status] > strong"), bench.value("byId('stopped').hidden")], ["Yes: both loads read 0 in a run.", True])
+    bench.choose("outcomes")
+    bench.value(stopped % ("why", "outcomes", ", depth: 32, states: 5"))
+    return faults + differs("what was met", bench.value("[/among the first 5 states/.test(byId('stopped').textContent), firstAnswer().status === UNENDED]"), [True, True]) + safety(bench)
 
 
 def long_run_row(bench):
@@ -322,6 +355,7 @@ def rows(page, folder):
         ("a sweep", lambda: sweep_row(bench)),
         ("counts", lambda: counts_row(bench)),
         ("a search that is stopped", lambda: stop_row(bench)),
+        ("a search that is stopped in its second pass", lambda: compared_row(bench)),
         ("a run of very many choices", lambda: long_run_row(bench)),
         ("other machines", lambda: comparison_row(bench)),
         ("the list of texts", lambda: library_row(bench, folder)),

@@ -271,7 +271,7 @@ def told_loads_row(bench):
         bench.load(test, choices)
         bench.value("%saskWhy()" % ("goTo(6), " if choices else ""))
         bench.wait("!bench.task && document.querySelector('.reason')")
-        said = bench.text(".reason .passing")
+        said = bench.text(".how-read .passing")
         told, arrows = re.findall(r"P\d read \w before memory saw its store to \w", said), bench.value(drawn)
         faults += ["%s has no arrow" % each for each in told if each not in arrows] + differs("the first arrow", arrows[0] in told, True)
         faults += differs("that one is enough", "only one load" in said, len(told) == 1) + differs("what keeps it", "MFENCE or a locked instruction" in said, True)

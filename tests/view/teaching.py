@@ -181,7 +181,7 @@ def plain_words_row(bench):
     bench.open_fresh()
     first = bench.value("[document.querySelector('#texts h4').textContent, ...[...document.querySelector('#texts ul').querySelectorAll('button')].map(each => each.textContent)]")
     faults += differs("the list", first[:5], ["Start here", "store-buffering.litmus", "store-buffering-fenced.litmus", "SB+mfence+po.litmus", "MP.litmus"])
-    faults += differs("with a lock", len(first) == 7, bench.value("bench.hasLargerSet"))
+    faults += differs("with a lock", len(first) == 8, bench.value("bench.hasLargerSet"))
     bench.fill("search", "MP")
     faults += [] if bench.text("#texts h4") != "Start here" else ["a search has what to begin with"]
     return faults + safety(bench)
@@ -223,15 +223,15 @@ def taught_row(bench, folder):
     return faults + ([] if "JSON" in bench.text("#message") else ["it says " + bench.text("#message")]) + safety(bench)
 
 
-# Tests with the words that stand before their task once the page knows whether it can be done.
-TASKS = [("SB", "exists", "Task: Make both loads read 0."), ("SB+mfences", "exists", "Can this be done? Make both loads read 0."),
-         ("SB", "~exists", "Task: The test claims that no run ends so. Make both loads read 0."),
-         ("SB", "forall", "Task: The test claims that each run ends so. End otherwise than with 0 in P0's EAX and 0 in P1's EAX."),
+# Tests with their task, whose words don't tell whether it can be done.
+TASKS = [("SB", "exists", "Can this be done? Make both loads read 0."), ("SB+mfences", "exists", "Can this be done? Make both loads read 0."),
+         ("SB", "~exists", "Can this be done? The test claims that no run ends so. Make both loads read 0."),
+         ("SB", "forall", "Can this be done? The test claims that each run ends so. End otherwise than with 0 in P0's EAX and 0 in P1's EAX."),
          ("MP", "~exists", "Can this be done? The test claims that no run ends so. End with 1 in P1's EAX and 0 in P1's EBX.")]
 
 
 def tasks_row(bench):
-    """What can't be, or isn't known to be possible, is a question; `~exists` and `forall` have tasks; what was missed is told, and why is offered."""
+    """What the reader doesn't know to be possible is a question; `~exists` and `forall` have tasks; what was missed is told, and why is offered."""
     faults = []
     for name, quantifier, wanted in TASKS:
         bench.open_fresh()

@@ -79,7 +79,7 @@ def stopped_row(bench):
     press(bench, "#find-outcomes")
     bench.wait("/About [1-9][\\d,]* of at most 10,000,000 states\\./.test(byId('working').textContent)")
     press(bench, "#stop")
-    faults = differs("in sight", is_in_sight(bench, "#stopped"), True) + differs("the focus", bench.value("document.activeElement.dataset.ask"), "why")
+    faults = differs("in sight", is_in_sight(bench, "#stopped"), True) + differs("the focus", bench.value("document.activeElement === document.querySelector('#stopped-ways button')"), True)
     said, stopped = bench.text("#stopped"), r"Stopped after \d+ s, at about [\d,]+ of at most 10,000,000 states: there is no whole answer\."
     faults += [] if re.match(stopped, said) and "Begin again" in said else ["it says " + said]
     press(bench, "#stopped-close")
@@ -144,8 +144,7 @@ def refused_row(bench):
     bench.open_fresh(width=1280)
     bench.window.resize(1280, 800)
     bench.fill("test", STORES_AND_LOADS.replace("| MOV EAX,[x] ;", ";"))
-    bench.value("putCommand('why'); answerNow(); scrollTo(0, 0)")
-    press(bench, "#begin")
+    bench.value("putCommand('why'); answerNow(); scrollTo(0, 0); query('#begin').title && document.body.dispatchEvent(new KeyboardEvent('keydown', { key: 'Enter', ctrlKey: true, bubbles: true }))")
     bench.wait("!bench.task && document.activeElement.id === 'test'")
     faults = differs("in sight", [is_in_sight(bench, each) for each in ("#test-band", "#plain")], [True, True])
     caret = bench.value("byId('test').value.slice(0, byId('test').selectionStart).split('\\n').length")
@@ -166,16 +165,18 @@ def deeper_run_row(bench):
 
 
 def said_undo_row(bench):
-    """The sentence says what was undone, and what was done again."""
+    """The sentence says what was undone, and what was done again. Back from an answer a question isn't to be undone any more."""
     bench.open_fresh()
     press(bench, "[data-choice='0s']")
-    press(bench, "#find-outcomes")
-    bench.wait("!bench.task && document.querySelector('.states-sheet')")
     said = []
+    for selector in ("#find-outcomes", "#to-run", "#find-outcomes"):
+        press(bench, selector)
+        bench.wait("!bench.task && (drive.isOn || document.querySelector('.states-sheet'))")
+        said.append(bench.value("byId('undo').title"))
     for way in (UNDO, UNDO, REDO):
-        bench.value(way)
-        said.append(bench.text("#sentence").partition(". ")[0])
-    return differs("said", said, ["Undone: what was asked", "Undone: a choice", "Done again: a choice"]) + safety(bench)
+        said.append(bench.value("%s; byId('sentence').textContent.split('. ')[0]" % way))
+    asked, choice = "Undo: the last question", "Undo: a choice"
+    return differs("said", said, [asked, choice, asked, "Undone: the last question", "Undone: a choice", "Done again: a choice"]) + safety(bench)
 
 
 def climbed_row(bench):
