@@ -125,7 +125,7 @@ def unmoved_row(bench):
                 bench.value("goTo(drive.words.length)")
         said = bench.value("[document.querySelector('#sentence > strong').textContent.trim(), byId('sentence').textContent.split('core. ')[1], [...document.querySelectorAll('.said')].some(each => each.checkVisibility()), byId('verdict').textContent, document.querySelector('.tally').textContent.replace(/\\s/g, ' ')]")
         faults += differs("the end", said, ["4 of 4 accesses missed: x and y share a line, and 3 of them took it from the other core.", "P1 read y=1 from P0's cache. GetS x, y went on the bus. Under MOESI and MOSI: P0 keeps the line as its owner.", False, "", "4 misses, 1 flush"])
-        for name, words in (("false-sharing", STEPS["false-sharing"]), ("false-sharing-loads", "0s 1s 0s 0d 1s 1d")):
+        for name, words in (("false-sharing", STEPS["false-sharing"]), ("false-sharing-loads", "0s 0s 0d 1s 1s 1d 0s")):
             bench.value("loadText('%s.litmus'); settingOf('words').value = '1'; putChoices('%s'); answerNow()" % (name, words))
             faults += differs("%s, one word a line, at %d" % (name, width), bench.value("[%s, document.documentElement.scrollHeight]" % MOVED), [0, height])
     bench.value("putLecture(false)")
