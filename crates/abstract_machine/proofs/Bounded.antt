@@ -1,5 +1,5 @@
 -- What this project's machine reaches with bounded buffers, and what the abstract machine does.
-use Rattle.abstract_machine.proofs.Vocabulary.{◌≤◌, ◌<◌, ◌↔◌, ℕ, suc, List, [], ◌∷◌, length, slice_index_or, arith, subst, Litmus, IsTest}
+use Rattle.abstract_machine.proofs.Vocabulary.{◌≤◌, ◌<◌, ◌↔◌, ℕ, suc, List, [], ◌∷◌, length, slice_index_or, arith, subst, Litmus, IsTest, well-formed}
 use Rattle.abstract_machine.proofs.Vocabulary.{action_of, IsTsoExecution, Instr, Action, Entry, store_count, stores_in, most_stores, needed}
 use Rattle.abstract_machine.proofs.Vocabulary.{choices_along, IsReached, max-within, Machine, EndsWith, IsReachedFreely}
 use Rattle.abstract_machine.proofs.Leading.{Reaches}
@@ -20,11 +20,11 @@ Enough = (t : Litmus) (order : List Entry) → IsTsoExecution t order → needed
 pub bounded-is-free : Executions → Reaches → Enough → Freely → Returns → (t : Litmus) (depth : ℕ) (order : List Entry) → IsTest t
     → most_stores t.programs ≤ depth → IsReached t depth order ↔ IsReachedFreely t order
 bounded-is-free executions reaches enough freely returns t depth order test l = (
-  λ r. freely t order test (subst (IsTsoExecution t) r.commits (executions t depth r.choices test r.ended).order),
+  λ r. freely t order test (subst (IsTsoExecution t) r.commits (executions t depth r.choices (well-formed t test) r.ended).order),
   λ f.
       let tso = returns t order f.0 test f.1 in
       let least = enough t order tso in
-      let w = reaches t depth order test tso (omega arith) in
+      let w = reaches t depth order (well-formed t test) tso (omega arith) in
       record { choices = choices_along t order; cores = w.cores; ended = w.ended; commits = w.commits },
 )
 

@@ -1,7 +1,8 @@
 -- A run of the flat machine that ends the test is followed by one of the abstract machine that ends it too.
 use Rattle.abstract_machine.proofs.Vocabulary.{◌≡◌, ◌<◌, ◌≤◌, ◌==◌, ℕ, ◌+◌, zero, suc, Bool, true, false, List, [], ◌∷◌, ◌++◌, length, None}
 use Rattle.abstract_machine.proofs.Vocabulary.{Some, slice_get, slice_index_or, arith, sym, ◌∙◌, refl, subst, if◌then◌else◌, append_assoc}
-use Rattle.abstract_machine.proofs.Vocabulary.{nat_tests, Litmus, IsTest, IsAdjacent, IsTsoExecution, CoreState, State, is_none_pending}
+use Rattle.abstract_machine.proofs.Vocabulary.{nat_tests, Litmus, IsTest, IsWellFormed, well-formed, IsAdjacent, IsTsoExecution, CoreState}
+use Rattle.abstract_machine.proofs.Vocabulary.{State, is_none_pending}
 use Rattle.abstract_machine.proofs.Vocabulary.{program_of, chosen, effect_of, after_choice, started, start, is_done, all_done, has_ended}
 use Rattle.abstract_machine.proofs.Vocabulary.{Run, resting, then_run, run_from, run, CoresExist, Instr, Entry, Choice, needed}
 use Rattle.abstract_machine.proofs.Vocabulary.{choices_along, LeadTo, Machine, Runs, rests, goes_on, IsFinished, AllAreFinished}
@@ -100,10 +101,10 @@ run-leads t n order choices exist ended commits pairs =
 -- each execution is reached by a run of the flat machine at each depth that is enough
 abbrev pub Reaches : Type 0
 Reaches =
-    (t : Litmus) (depth : ℕ) (order : List Entry) → IsTest t → IsTsoExecution t order → needed order ≤ depth
+    (t : Litmus) (depth : ℕ) (order : List Entry) → IsWellFormed t → IsTsoExecution t order → needed order ≤ depth
     → LeadTo t depth (choices_along t order) order
 
 pub execution-runs : Reaches → (t : Litmus) (order : List Entry) → IsTest t → IsTsoExecution t order → IsReachedFreely t order
 execution-runs reaches t order test tso =
-    let w = reaches t (suc (needed order)) order test tso (omega arith) in
+    let w = reaches t (suc (needed order)) order (well-formed t test) tso (omega arith) in
     run-leads t (needed order) order (choices_along t order) w.cores w.ended w.commits tso.adjacent

@@ -1,6 +1,7 @@
 -- A run of the abstract machine that ends the test leads to a state of the flat machine that has ended it too.
 use Rattle.abstract_machine.proofs.Vocabulary.{◌≡◌, ◌<◌, ℕ, suc, true, List, [], ◌∷◌, ◌++◌, length, map, None, Some, slice_get, slice_set}
 use Rattle.abstract_machine.proofs.Vocabulary.{slice_index_or, arith, ap, sym, ◌∙◌, refl, inl, inr, subst, append_assoc, Litmus, IsTest}
+use Rattle.abstract_machine.proofs.Vocabulary.{IsWellFormed, well-formed}
 use Rattle.abstract_machine.proofs.Vocabulary.{IsTsoExecution, final_words, final_registers, CoreState, State, program_of, registers_in}
 use Rattle.abstract_machine.proofs.Vocabulary.{start, is_done, all_done, has_ended, run, put_together, Instr, Entry, Choice, IsPossible}
 use Rattle.abstract_machine.proofs.Vocabulary.{End, IsExecution, StopsAtTheEnd, HardwareThread, Machine, first, ThreadStep, Runs, rests}
@@ -96,7 +97,7 @@ abbrev pub Stops : Type 0
 Stops = (t : Litmus) (depth : ℕ) (choices : List Choice) → StopsAtTheEnd t depth choices (run t depth choices)
 
 abbrev pub Executions : Type 0
-Executions = (t : Litmus) (depth : ℕ) (choices : List Choice) → IsTest t → End t depth choices → IsExecution t (run t depth choices)
+Executions = (t : Litmus) (depth : ℕ) (choices : List Choice) → IsWellFormed t → End t depth choices → IsExecution t (run t depth choices)
 
 -- the order is a TSO execution, and the machine is left in its final state
 pub record Returned (t : Litmus) (order : List Entry) (m : Machine) : Type 0 where
@@ -111,7 +112,7 @@ possible-returned stops executions t depth order state test way ended =
     let state_is : (run t depth way.choices).state ≡ state = stop.all_state ∙ way.state_is in
     let commits_are : (run t depth way.choices).commits ≡ order = stop.all_commits ∙ way.commits_are in
     let end : End t depth way.choices = stop.ended ∙ ap (has_ended t) state_is ∙ ended in
-    let execution = executions t depth way.choices test end in
+    let execution = executions t depth way.choices (well-formed t test) end in
     record {
       order_is = subst (IsTsoExecution t) commits_are execution.order;
       memory = sym (ap (λ z. z.memory) state_is) ∙ execution.memory ∙ ap (final_words t) commits_are;

@@ -19,6 +19,8 @@ pub use Rattle.tso_terms.specs.Axioms.{IsTsoExecution, last_value, IsAdjacent}
 pub use Rattle.tso_terms.specs.FinalState.{final_words, final_registers}
 pub use Rattle.tso_terms.specs.Runs.{is_done, all_done, has_ended, run, Run, resting, then_run, run_from, CoresExist}
 pub use Rattle.tso_terms.specs.Together.{put_together, put_before}
+pub use Rattle.tso_laws.specs.WellFormed.{IsWellFormed}
+pub use Rattle.tso_laws.proofs.WellFormed.{well-formed}
 pub use Rattle.tso_laws.specs.Choices.{IsPossible}
 pub use Rattle.tso_laws.specs.EndedRuns.{End, IsExecution}
 pub use Rattle.tso_laws.specs.inner.Stopping.{StopsAtTheEnd}

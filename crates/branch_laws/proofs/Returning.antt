@@ -5,7 +5,8 @@ use Rattle.std.proofs.lemmas.Bool.Decides.{nat_tests}
 use Rattle.basic_laws.proofs.Basics.{and-left, and-right}
 use Rattle.basic_laws.proofs.Cores.{done-at}
 use Rattle.basic_laws.proofs.Lists.{Each, drop-end}
-use Rattle.tso_terms.specs.Litmus.{Litmus, IsTest}
+use Rattle.tso_terms.specs.Litmus.{Litmus}
+use Rattle.tso_laws.specs.WellFormed.{IsWellFormed}
 use Rattle.tso_terms.specs.FlatMachine.{CoreState, State, Effect, program_of, core_of, is_none_pending, effect_of, step_of, drain_of}
 use Rattle.tso_terms.specs.FlatMachine.{applied, after_choice, start}
 use Rattle.tso_terms.specs.Runs.{CoresExist, is_done, has_ended}
@@ -218,7 +219,7 @@ runs-are-tree-runs stopping b m order outputs h g =
     }
 
 pub tree-runs-exactly : RunsStopWhereTheyEnd → RunsReachExactlyTheExecutions → (b : Branching) (depth : ℕ) (order : List Entry) (outputs : List (List ℕ))
-    → IsTest (straight b (values_from 0 b.trees order)) → 0 < depth
+    → IsWellFormed (straight b (values_from 0 b.trees order)) → 0 < depth
     → IsTreeReached b depth order outputs ↔ (IsBranchExecution b order outputs × (needed order ≤ depth))
 tree-runs-exactly stopping law b zero order outputs test l = absurd (omega arith)
 tree-runs-exactly stopping law b (suc m) order outputs test l =

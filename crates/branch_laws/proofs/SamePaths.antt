@@ -9,9 +9,10 @@ use Rattle.tso_terms.specs.Runs.{CoresExist}
 use Rattle.tso_terms.specs.FlatMachine as flat
 use Rattle.tso_laws.specs.Laws.{RunsReachExactlyTheExecutions}
 use Rattle.tso_laws.specs.inner.Laws.{RunsStopWhereTheyEnd, WholeOrdersHaveEachEntryOnce}
+use Rattle.tso_laws.proofs.WellFormed.{well-formed}
 use Rattle.basic_laws.specs.Types.{Entry, Choice, Step, Drain}
 use Rattle.branch_laws.specs.Trees.{Tree, Done, Cut, values_along, outputs_along}
-use Rattle.branch_laws.specs.Branching.{Branching, values_from, IsBranchExecution, IsBranchOutcome}
+use Rattle.branch_laws.specs.Branching.{straight, Branching, values_from, IsBranchExecution, IsBranchOutcome}
 use Rattle.branch_laws.specs.TreeMachine.{TreeCore, TreeState, TreeEffect, act, drain_tree, tree_core, tree_effect, tree_choice}
 use Rattle.branch_laws.specs.TreeMachine.{tree_applied, tree_after, tree_commits, tree_start, IsDoneWith, IsTreeReached}
 use Rattle.branch_laws.specs.Rounds.{EachPathIsTest, writes_in}
@@ -276,7 +277,10 @@ leave-the-same stopping whole law ended greatest n b other outputs memory test o
       words_from 0 other.words made,
       record {
         order = made;
-        execution = ((tree-runs-exactly stopping law other (suc d) made outputs other_own (omega arith)).0 reached).0;
+        execution =
+            ((tree-runs-exactly stopping law other (suc d) made outputs
+            (well-formed (straight other (values_from 0 other.trees made)) other_own) (omega arith)).0
+            reached).0;
         memory_is = refl;
       },
       λ loc l. ap (λ z. slice_index z loc) (sym left_other ∙ ap (λ z. z.memory) is) ∙ e.agree.same loc l ∙ ap (λ z. slice_index z loc) (left_b ∙ h.memory_is),

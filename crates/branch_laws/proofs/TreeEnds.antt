@@ -7,6 +7,8 @@ use Rattle.tso_terms.specs.FinalState.{words_from}
 use Rattle.tso_terms.specs.FlatMachine.{program_of, core_of, start}
 use Rattle.tso_terms.specs.Runs.{has_ended, run}
 use Rattle.tso_laws.specs.Choices.{state_after}
+use Rattle.tso_laws.specs.WellFormed.{IsWellFormed}
+use Rattle.tso_laws.proofs.WellFormed.{well-formed}
 use Rattle.tso_laws.specs.Depth.{needed}
 use Rattle.tso_laws.specs.EndedRuns.{End, IsExecution}
 use Rattle.tso_laws.specs.Laws.{RunsReachExactlyTheExecutions}
@@ -23,7 +25,7 @@ use Rattle.branch_laws.proofs.InRounds.{paths-of-rounds}
 use Rattle.branch_laws.proofs.Listed.{runs-listed}
 
 abbrev pub Ended : Type 0
-Ended = (t : Litmus) (depth : ℕ) (choices : List Choice) → IsTest t → End t depth choices → IsExecution t (run t depth choices)
+Ended = (t : Litmus) (depth : ℕ) (choices : List Choice) → IsWellFormed t → End t depth choices → IsExecution t (run t depth choices)
 
 abbrev pub Greatest : Type 0
 Greatest = (t : Litmus) (order : List Entry) → IsTest t → IsTsoExecution t order → needed order ≤ 32
@@ -47,7 +49,7 @@ memory-left stopping law b m order outputs test h =
     even-done k (program_of t k) (core_of (state_after t (suc m) (start t) w.choices) k)
     (tree_core (tree_after (suc m) (tree_start b) h.choices) k) (slice_index_or outputs k [])
     (w.rel.cores k (let z = w.rel.flat_size in omega arith)) (h.done k (let z = w.rel.flat_size in omega arith))) in
-    let e = law t (suc m) w.choices test (stops.ended ∙ ap (λ z. has_ended t z) stops.all_state ∙ ended) in
+    let e = law t (suc m) w.choices (well-formed t test) (stops.ended ∙ ap (λ z. has_ended t z) stops.all_state ∙ ended) in
     sym w.rel.memory ∙ ap (λ z. z.memory) (sym stops.all_state) ∙ e.memory ∙ ap (λ z. words_from 0 b.words z) (stops.all_commits ∙ w.commits ∙ h.commits)
 
 pub reach : RunsStopWhereTheyEnd
@@ -57,7 +59,7 @@ pub reach : RunsStopWhereTheyEnd
     → IsTest (straight b (values_from 0 b.trees order))
     → IsBranchExecution b order outputs → IsTreeReached b 32 order outputs
 reach stopping law greatest b order outputs test h =
-    (tree-runs-exactly stopping law b 32 order outputs test (omega arith)).1 (
+    (tree-runs-exactly stopping law b 32 order outputs (well-formed (straight b (values_from 0 b.trees order)) test) (omega arith)).1 (
       h,
       greatest (straight b (values_from 0 b.trees order)) order test (to-own b order outputs h).1,
     )
@@ -77,7 +79,7 @@ ends stopping whole law ended greatest b outputs memory test = (
       let own = test (length h.choices) (values_from 0 b.trees order) (runs-listed b 32 order outputs r) in
       record {
         order = order;
-        execution = ((tree-runs-exactly stopping law b 32 order outputs own (omega arith)).0 r).0;
+        execution = ((tree-runs-exactly stopping law b 32 order outputs (well-formed (straight b (values_from 0 b.trees order)) own) (omega arith)).0 r).0;
         memory_is = sym (memory-left stopping ended b 31 order outputs own r) ∙ h.memory_is;
       }
       ),

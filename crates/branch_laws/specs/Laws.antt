@@ -1,7 +1,7 @@
 -- What the laws of branches say that are too long for a line: each is the contract of the function of the same name.
 use Rattle.std.specs.Prelude.{ℕ, ◌<◌, ◌≤◌, ◌≡◌, ◌↔◌, List, length, slice_index}
 use Rattle.tso_terms.specs.Limits.{most_depth}
-use Rattle.tso_terms.specs.Litmus.{IsTest}
+use Rattle.tso_laws.specs.WellFormed.{IsWellFormed}
 use Rattle.tso_terms.specs.Axioms.{IsTsoExecution}
 use Rattle.basic_laws.specs.Types.{Entry}
 use Rattle.tso_laws.specs.Depth.{needed}
@@ -26,7 +26,7 @@ pub record SplittingIsExact : Type 0 where
 abbrev pub TreeRunsReachExactlyTheExecutions : Type 0
 TreeRunsReachExactlyTheExecutions =
     (b : Branching) (depth : ℕ) (order : List Entry) (outputs : List (List ℕ))
-    → IsTest (straight b (values_from 0 b.trees order)) → 0 < depth
+    → IsWellFormed (straight b (values_from 0 b.trees order)) → 0 < depth
     → IsTreeReached b depth order outputs ↔ (IsBranchExecution b order outputs × (needed order ≤ depth))
 
 -- what runs leave, at the greatest depth, is what the axioms allow

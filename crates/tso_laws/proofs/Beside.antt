@@ -1,7 +1,7 @@
 -- An eager choice beside any other choice.
 use Rattle.tso_laws.proofs.EagerVocabulary.{◌≡◌, ◌<◌, ◌≤◌, ℕ, ◌+◌, zero, suc, List, [], ◌∷◌, Bool, true, false, Option, Some, None, length}
 use Rattle.tso_laws.proofs.EagerVocabulary.{slice_get, slice_index_or, arith, ap, sym, ◌∙◌, refl, subst, inl, inr, nat_lt, if◌then◌else◌}
-use Rattle.tso_laws.proofs.EagerVocabulary.{get_or-set_same, length-set, nat_tests, action_of, location_of, Litmus, IsTest, KnownLocation}
+use Rattle.tso_laws.proofs.EagerVocabulary.{get_or-set_same, length-set, nat_tests, action_of, location_of, Litmus, IsWellFormed, KnownLocation}
 use Rattle.tso_laws.proofs.EagerVocabulary.{CoreState, State, Effect, idle, program_of, core_of, effect_by, step_of, drain_of, effect_of}
 use Rattle.tso_laws.proofs.EagerVocabulary.{chosen, applied, after_choice, started, start, stored, stalled, when_drained, is_none_pending}
 use Rattle.tso_laws.proofs.EagerVocabulary.{step, drain, IfSome, Reg, Loc, Instr, Action, Store, Load, Move, Fence, Lock, Entry, Choice}
@@ -91,7 +91,7 @@ sized-after d t s c z = record {
   cores = length-set s.cores (chosen c) (effect_of t d s c).after ∙ z.cores;
 }
 
-pub sized-start : (t : Litmus) → IsTest t → IsSized t (start t)
+pub sized-start : (t : Litmus) → IsWellFormed t → IsSized t (start t)
 sized-start t test = record { words = test.words_given; cores = go 0 t.programs t.registers }
   where
     go : (c : ℕ) (ps : List (List Instr)) (rs : List (List ℕ)) → length (started c ps rs) ≡ length ps
@@ -108,7 +108,7 @@ others-kept loads l d t s k c q h j n = subst (λ z. Avoids loads l (program_of 
 
 -- the test gives the location of each instruction a word
 location-known : (t : Litmus) (s : State) (k i : ℕ) (x : Instr)
-    → IsTest t
+    → IsWellFormed t
     → IsSized t s
     → k < length t.programs
     → slice_get (program_of t k) i ≡ Some x
@@ -116,14 +116,14 @@ location-known : (t : Litmus) (s : State) (k i : ℕ) (x : Instr)
 location-known t s k i x test z l e =
     let w = z.words in
     let r = at (program_of t k) i x e in
-    subst (λ n. KnownLocation n x) (sym w) (subst (λ y. KnownLocation (length t.locations) y) r.1 ((test.programs_fit k [] l).locations_known i x r.0))
+    subst (λ n. KnownLocation n x) (sym w) (subst (λ y. KnownLocation (length t.locations) y) r.1 (test.locations_known k [] l i x r.0))
   where
     at : (p : List Instr) (i : ℕ) (x : Instr) → slice_get p i ≡ Some x → (i < length p) × (slice_index_or p i x ≡ x)
     at [] i x e = absurd (let z : ⊥ = cc in z)
     at (y ∷ p) zero x e = (omega arith, let z : y ≡ x = cc in z)
     at (y ∷ p) (suc i) x e = let r = at p i x e in (let l = r.0 in omega arith, r.1)
 
-module _ (d : ℕ) (t : Litmus) (test : IsTest t) (s : State) (sized : IsSized t s) (k : ℕ) (present : k < length s.cores) where
+module _ (d : ℕ) (t : Litmus) (test : IsWellFormed t) (s : State) (sized : IsSized t s) (k : ℕ) (present : k < length s.cores) where
   within : k < length t.programs
   within = let n = sized.cores in omega (arith, n, present)
 
@@ -229,7 +229,7 @@ module _ (d : ℕ) (t : Litmus) (test : IsTest t) (s : State) (sized : IsSized t
   ]
 
 -- an eager choice beside any other
-pub beside : (d : ℕ) (t : Litmus) → IsTest t → (s : State) (e c : Choice) → IsSized t s → IsEager d t s e → Beside d t s e c
+pub beside : (d : ℕ) (t : Litmus) → IsWellFormed t → (s : State) (e c : Choice) → IsSized t s → IsEager d t s e → Beside d t s e c
 beside d t test s e c z h = elim (lt-or (length s.cores) (chosen c)) [
   | inl l ↦ elim (decide (chosen c) (chosen e)) [ inl q ↦ own e c q h (eager-present d t s e z h) | inr n ↦ commutes (of-others d t s e c n l h) ]
   | inr l ↦ stalls (absent-same d t s c z.cores (let n = z.cores in omega (arith, n, l)))

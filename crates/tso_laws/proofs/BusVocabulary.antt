@@ -7,6 +7,7 @@ pub use Rattle.std.proofs.lemmas.Bool.{cases_Bool}
 pub use Rattle.basic_laws.proofs.Cores.{starts-idle, length-starts, all-done, done-at, no-program, no-core, done-anywhere}
 pub use Rattle.std.proofs.lemmas.Option.{slice_get_within, slice_get_past}
 pub use Rattle.tso_terms.specs.Litmus.{Litmus, IsTest}
+pub use Rattle.tso_laws.specs.WellFormed.{IsWellFormed}
 pub use Rattle.tso_terms.specs.FlatMachine.{CoreState, State, Effect, idle, stalled, step_of, effect_of, chosen, core_of, program_of}
 pub use Rattle.tso_terms.specs.FlatMachine.{applied, started, after_choice, start, drain_of, is_none_pending, memory_after, stored}
 pub use Rattle.tso_terms.specs.FlatMachine.{effect_by, step, drain}

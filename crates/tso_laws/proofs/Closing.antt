@@ -1,6 +1,6 @@
 -- Closed states miss none of the ended ones, but for dead registers and exchanges of cores that are alike.
 use Rattle.tso_laws.proofs.EagerVocabulary.{◌≡◌, ◌<◌, ◌⊎◌, ℕ, zero, suc, List, [], ◌∷◌, ◌++◌, Bool, true, length, inl, inr, refl, ap, sym}
-use Rattle.tso_laws.proofs.EagerVocabulary.{◌∙◌, subst, Litmus, IsTest, State, start, chosen, after_choice, run, Choice, state_after}
+use Rattle.tso_laws.proofs.EagerVocabulary.{◌∙◌, subst, Litmus, IsWellFormed, State, start, chosen, after_choice, run, Choice, state_after}
 use Rattle.tso_laws.proofs.EagerVocabulary.{RunsStopWhereTheyEnd, lt-or, IsEager, IsDead, Reaches, IsSized, forgotten, AreAlike}
 use Rattle.tso_laws.proofs.EagerVocabulary.{exchanged_choice, exchanged, exchanged_by, IsOneOf, AreOf, AreAllAlike, IsExchangeable}
 use Rattle.tso_laws.proofs.EagerVocabulary.{LeadsEagerly, IsAmongStates, IsCovered, AreClosed, IsPartlyExpanded, ArePartlyClosed}
@@ -92,7 +92,7 @@ module _ (d : ℕ) (t : Litmus) (hidden : List (List Bool)) (pairs : List (ℕ �
 
 -- ---- the states of a closed list
 
-module _ (d : ℕ) (t : Litmus) (test : IsTest t) where
+module _ (d : ℕ) (t : Litmus) (test : IsWellFormed t) where
   eager-one : (last : State)
       → IsDead d t last
       → (n : ℕ) (s : State) (e : Choice)
@@ -218,7 +218,7 @@ module _ (d : ℕ) (t : Litmus) (test : IsTest t) where
 
 pub partly-miss-none : RunsStopWhereTheyEnd
     → (d : ℕ) (t : Litmus) (hidden : List (List Bool)) (pairs : List (ℕ × ℕ)) (states : List State) (choices : List Choice)
-    → IsTest t
+    → IsWellFormed t
     → AreAllAlike t hidden pairs
     → ArePartlyClosed d t hidden pairs states
     → (run t d choices).ended ≡ true
@@ -230,7 +230,7 @@ partly-miss-none law d t hidden pairs states choices test all closed e =
 
 pub miss-none : RunsStopWhereTheyEnd
     → (d : ℕ) (t : Litmus) (hidden : List (List Bool)) (pairs : List (ℕ × ℕ)) (states : List State) (choices : List Choice)
-    → IsTest t
+    → IsWellFormed t
     → AreAllAlike t hidden pairs
     → AreClosed d t hidden pairs states
     → (run t d choices).ended ≡ true

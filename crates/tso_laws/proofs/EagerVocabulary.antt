@@ -4,7 +4,8 @@ pub use Rattle.std.proofs.Common.{[], ◌∷◌, ◌++◌, Some, slice_set, slic
 pub use Rattle.std.proofs.Common.{get_or-set_other, ◌≤◌, map, swap, slice_index_or, inl, inr, Option, None, drop, take}
 pub use Rattle.std.proofs.lemmas.Bool.{cases_Bool}
 pub use Rattle.tso_terms.specs.Actions.{action_of, location_of}
-pub use Rattle.tso_terms.specs.Litmus.{Litmus, IsTest, KnownLocation}
+pub use Rattle.tso_terms.specs.Litmus.{Litmus, KnownLocation}
+pub use Rattle.tso_laws.specs.WellFormed.{IsWellFormed}
 pub use Rattle.tso_terms.specs.FlatMachine.{CoreState, State, program_of, core_of, Effect, idle, effect_by, step_of, drain_of, applied}
 pub use Rattle.tso_terms.specs.FlatMachine.{after_choice, stored, stalled, step, drain, effect_of, memory_after, is_none_pending}
 pub use Rattle.tso_terms.specs.FlatMachine.{when_drained, locked, load_value, chosen, start, registers_in, started, loaded, advanced}

@@ -1,5 +1,5 @@
 -- Ended runs on either bus are ended runs of the flat machine, and so what its laws say of those.
-use Rattle.tso_laws.proofs.BusVocabulary.{◌≡◌, ℕ, List, ◌++◌, ap, sym, ◌∙◌, append-nil, Litmus, IsTest, KeepsAllOrder, start, run, Attempt}
+use Rattle.tso_laws.proofs.BusVocabulary.{◌≡◌, ℕ, List, ◌++◌, ap, sym, ◌∙◌, append-nil, Litmus, IsWellFormed, KeepsAllOrder, start, run, Attempt}
 use Rattle.tso_laws.proofs.BusVocabulary.{unheld, run_on, HitsFit, put_together, together, Bus, Choice, End, IsExecution, EndOn, waiting}
 use Rattle.tso_laws.proofs.BusVocabulary.{IsFlatRun}
 use Rattle.tso_laws.proofs.BusWaiting.{start-stores}
@@ -8,10 +8,10 @@ use Rattle.tso_laws.proofs.BusStopping.{end-free}
 
 -- the laws of the flat machine that are needed
 abbrev pub FlatExecutions : Type 0
-FlatExecutions = (t : Litmus) (depth : ℕ) (choices : List Choice) → IsTest t → End t depth choices → IsExecution t (run t depth choices)
+FlatExecutions = (t : Litmus) (depth : ℕ) (choices : List Choice) → IsWellFormed t → End t depth choices → IsExecution t (run t depth choices)
 
 abbrev pub FlatKeepsAll : Type 0
-FlatKeepsAll = (t : Litmus) (choices : List Choice) → IsTest t → KeepsAllOrder (run t 0 choices).commits
+FlatKeepsAll = (t : Litmus) (choices : List Choice) → IsWellFormed t → KeepsAllOrder (run t 0 choices).commits
 
 pub is-flat : (bus : Bus) (t : Litmus) (depth : ℕ) (attempts : List Attempt) → HitsFit bus t depth (unheld (start t)) attempts
     → IsFlatRun bus t depth attempts (run_on bus t depth attempts)
@@ -40,7 +40,7 @@ flat-commits bus t depth attempts ended f =
 
 pub is-execution : FlatExecutions
     → (bus : Bus) (t : Litmus) (depth : ℕ) (attempts : List Attempt)
-    → IsTest t
+    → IsWellFormed t
     → HitsFit bus t depth (unheld (start t)) attempts
     → EndOn bus t depth attempts
     → IsExecution t (together (run_on bus t depth attempts).run)
@@ -52,7 +52,7 @@ is-execution flat_executions bus t depth attempts test hits ended =
 
 pub keeps-all : FlatKeepsAll
     → (bus : Bus) (t : Litmus) (attempts : List Attempt)
-    → IsTest t
+    → IsWellFormed t
     → HitsFit bus t 0 (unheld (start t)) attempts
     → EndOn bus t 0 attempts
     → KeepsAllOrder (put_together (run_on bus t 0 attempts).run.commits)

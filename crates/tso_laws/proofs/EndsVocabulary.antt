@@ -4,6 +4,7 @@ pub use Rattle.std.proofs.Common.{arith, ap, sym, ◌∙◌, subst, refl, get_or
 pub use Rattle.std.proofs.Common.{if◌then◌else◌, get_or-set_other, nat_lt, ◌==◌, append_assoc, max, ◌≤◌, ◌&&◌, filter}
 pub use Rattle.tso_terms.specs.Actions.{action_of}
 pub use Rattle.tso_terms.specs.Litmus.{Litmus, IsTest}
+pub use Rattle.tso_laws.specs.WellFormed.{IsWellFormed}
 pub use Rattle.tso_terms.specs.Thread.{entry, value_of}
 pub use Rattle.tso_terms.specs.FlatMachine.{CoreState, State, idle, advanced, advanced_with, moved, step_of, core_of, program_of, effect_of}
 pub use Rattle.tso_terms.specs.FlatMachine.{after_choice, applied, step, Effect, is_none_pending, stalled, stored, when_drained, effect_by}

@@ -1,6 +1,6 @@
 -- One of the choices of a stubborn set can be made first: whatever the choices to the end, they lead there after it too, and are one fewer.
 use Rattle.tso_laws.proofs.EagerVocabulary.{◌≡◌, ◌<◌, ◌⊎◌, ℕ, ◌+◌, zero, suc, List, [], ◌∷◌, Bool, true, false, Some, length, slice_get}
-use Rattle.tso_laws.proofs.EagerVocabulary.{arith, ap, sym, ◌∙◌, refl, subst, inl, inr, get_or-set_same, action_of, Litmus, IsTest, State}
+use Rattle.tso_laws.proofs.EagerVocabulary.{arith, ap, sym, ◌∙◌, refl, subst, inl, inr, get_or-set_same, action_of, Litmus, IsWellFormed, State}
 use Rattle.tso_laws.proofs.EagerVocabulary.{Effect, idle, program_of, core_of, effect_by, step_of, effect_of, chosen, after_choice, step}
 use Rattle.tso_laws.proofs.EagerVocabulary.{drain, Instr, Loc, Operand, Action, Store, Load, Move, Fence, Lock, Entry, Choice, Step, Drain}
 use Rattle.tso_laws.proofs.EagerVocabulary.{lt-or, IsDead, Reaches, IsSized, ChoiceSet, has_step, has_drain, has_choice, IsApartBy}
@@ -10,7 +10,7 @@ use Rattle.tso_laws.proofs.Own.{Goes, drain-is, either-way, core-drained, front-
 use Rattle.tso_laws.proofs.Beside.{stall-same, drain-empty, acts-when, loads, stalls-or-goes, no-instr, absent-same, sized-after}
 use Rattle.tso_laws.proofs.Apart.{OwnPart, Aside, aside, others-held-after}
 
-module _ (d : ℕ) (t : Litmus) (test : IsTest t) (set : ChoiceSet) where
+module _ (d : ℕ) (t : Litmus) (test : IsWellFormed t) (set : ChoiceSet) where
   -- ---- a choice outside the set beside what the set has of its core
 
   module _ (s : State) (sized : IsSized t s) (st : IsStubborn d t set s) where

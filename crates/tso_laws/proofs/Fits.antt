@@ -1,6 +1,6 @@
 -- The entries of a program have its places and its locations.
 use Rattle.tso_laws.proofs.Vocabulary.{◌≡◌, ◌≢◌, ◌<◌, ◌≤◌, ℕ, ◌+◌, zero, suc, List, [], ◌∷◌, Some, IfSome, length, take, slice_get}
-use Rattle.tso_laws.proofs.Vocabulary.{slice_index, arith, sym, refl, subst, Litmus, IsTest, KnownLocation, action_of, location_of}
+use Rattle.tso_laws.proofs.Vocabulary.{slice_index, arith, sym, refl, subst, Litmus, IsWellFormed, KnownLocation, action_of, location_of}
 use Rattle.tso_laws.proofs.Vocabulary.{entries_by, entries_of, IsWhole, StandsIn, read_values, made, made_by, program_of, Instr, Action}
 use Rattle.tso_laws.proofs.Vocabulary.{Move, Fence, Lock, Entry, F, FitsTest, Each, each-append, Member}
 use Rattle.tso_laws.proofs.Folds.{HasLocations}
@@ -30,7 +30,7 @@ entries-located n c place (i ∷ p) registers values f =
     (entries-located n c (place + 1) p _ _ (λ k. f (suc k)))
 
 -- an entry that a beginning of a program makes
-pub made-fits : (t : Litmus) (n : ℕ) (order : List Entry) (e : Entry) → IsTest t → HasLocations t → e.core.0 < length t.programs
+pub made-fits : (t : Litmus) (n : ℕ) (order : List Entry) (e : Entry) → IsWellFormed t → HasLocations t → e.core.0 < length t.programs
     → Member e (made_by e.core.0 (take n (program_of t e.core.0)) (first_of t e.core.0) order) → FitsTest t e
 made-fits t n order e test known l m =
     let k : ℕ = e.core.0 in
@@ -58,13 +58,13 @@ take-all : (p : List Instr) → take (length p) p ≡ p
 take-all [] = refl
 take-all (x ∷ p) = let h = take-all p in cc
 
-pub whole-fits : (t : Litmus) (order : List Entry) (e : Entry) → IsTest t → HasLocations t → IsWhole t order → StandsIn order e → FitsTest t e
+pub whole-fits : (t : Litmus) (order : List Entry) (e : Entry) → IsWellFormed t → HasLocations t → IsWhole t order → StandsIn order e → FitsTest t e
 whole-fits t order e test known w m =
     let h = (whole-own t order w).in_made e (at-member order m.0 e m.1) in
     made-fits t (length (program_of t e.core.0)) order e test known h.0
     (subst (λ z. Member e (made_by e.core.0 z (first_of t e.core.0) order)) (sym (take-all (program_of t e.core.0))) h.1)
 
-pub made-entry-fits : (t : Litmus) (order : List Entry) (e : Entry) → IsTest t → HasLocations t → StandsIn (made t order) e → FitsTest t e
+pub made-entry-fits : (t : Litmus) (order : List Entry) (e : Entry) → IsWellFormed t → HasLocations t → StandsIn (made t order) e → FitsTest t e
 made-entry-fits t order e test known s =
     let h = of-core t order e (made-at 0 t.programs t.registers order e (at-member (made t order) s.0 e s.1)) in
     made-fits t (length (program_of t e.core.0)) order e test known h.0

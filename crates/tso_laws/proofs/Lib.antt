@@ -1,4 +1,5 @@
 pub mod Vocabulary
+pub mod WellFormed
 pub mod Draining
 pub mod Folds
 pub mod Entries

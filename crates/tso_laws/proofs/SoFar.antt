@@ -1,7 +1,7 @@
 -- What holds after any list of choices, in the words of the definitions.
 use Rattle.tso_laws.proofs.Vocabulary.{◌≡◌, ◌≢◌, ◌<◌, ◌≤◌, ℕ, zero, suc, List, [], ◌∷◌, ◌++◌, Some, length, take, slice_get, slice_index}
 use Rattle.tso_laws.proofs.Vocabulary.{slice_index_or, All, arith, ap, sym, ◌∙◌, append_assoc, refl, ◌⊎◌, inl, inr, subst, filter}
-use Rattle.tso_laws.proofs.Vocabulary.{slice_get-get_or, Litmus, IsTest, KnownLocation, made_by, KeepsProgramOrder, StandsIn, registers_of}
+use Rattle.tso_laws.proofs.Vocabulary.{slice_get-get_or, Litmus, IsWellFormed, KnownLocation, made_by, KeepsProgramOrder, StandsIn, registers_of}
 use Rattle.tso_laws.proofs.Vocabulary.{CoreState, State, idle, program_of, core_of, effect_of, after_choice, start, run, Instr, Entry}
 use Rattle.tso_laws.proofs.Vocabulary.{Choice, decide, lt-or, state_after, commits_of, IsPossible, issued, is_waiting, CoreSoFar, IsIssued}
 use Rattle.tso_laws.proofs.Vocabulary.{SoFar, Each, each-at, each-map, each-append, each-right, Member, member-at, append-nil, no-program}
@@ -19,7 +19,7 @@ use Rattle.tso_laws.proofs.Waiting.{waits}
 use Rattle.tso_laws.proofs.Stopping.{run-stops-at-end}
 
 -- the limits give each location of the programs a word
-pub test-locations : (t : Litmus) → IsTest t → HasLocations t
+pub test-locations : (t : Litmus) → IsWellFormed t → HasLocations t
 test-locations t test k i x e =
     subst (λ n. KnownLocation n x) (sym test.words_given) (within k i x e (lt-or (length t.programs) k))
   where
@@ -34,7 +34,7 @@ test-locations t test k i x e =
         → KnownLocation (length t.locations) x
     within k i x e (inl l) =
         let r = at (program_of t k) i x e in
-        subst (λ z. KnownLocation (length t.locations) z) r.1 ((test.programs_fit k [] l).locations_known i x r.0)
+        subst (λ z. KnownLocation (length t.locations) z) r.1 (test.locations_known k [] l i x r.0)
     within k i x e (inr l) =
         absurd (let q : slice_get (program_of t k) i ≡ slice_get [] i = ap (λ z. slice_get z i) (no-program t.programs k l) in let z : ⊥ = cc in z)
 
@@ -74,7 +74,7 @@ core-so-far d t commits k s h order =
     known (y ∷ ys) q = (q.0.known, known ys q.1)
 
 pub so-far : (d : ℕ) (t : Litmus) (commits : List Entry) (state : State)
-    → IsTest t
+    → IsWellFormed t
     → HasLocations t
     → MachineInvariant d t commits state
     → SoFar t d commits state
@@ -130,12 +130,12 @@ so-far d t commits state test known w = record {
           entry = (s.0, subst (λ z. slice_get z s.0 ≡ Some e) (sym done) s.1);
         }
 
-pub choices-so-far : (t : Litmus) (d : ℕ) (cs : List Choice) → IsTest t → SoFar t d (commits_of t d (start t) cs) (state_after t d (start t) cs)
+pub choices-so-far : (t : Litmus) (d : ℕ) (cs : List Choice) → IsWellFormed t → SoFar t d (commits_of t d (start t) cs) (state_after t d (start t) cs)
 choices-so-far t d cs test =
     so-far d t (commits_of t d (start t) cs) (state_after t d (start t) cs) test (test-locations t test)
     (world-run t d [] (start t) cs (test-locations t test) (world-start d t))
 
-pub run-so-far : (t : Litmus) (d : ℕ) (cs : List Choice) → IsTest t → SoFar t d (run t d cs).commits (run t d cs).state
+pub run-so-far : (t : Litmus) (d : ℕ) (cs : List Choice) → IsWellFormed t → SoFar t d (run t d cs).commits (run t d cs).state
 run-so-far t d cs test =
     let s = run-stops-at-end t d cs in
     rw (s.all_commits, s.all_state) (choices-so-far t d cs test)
@@ -156,5 +156,5 @@ possible-start t d = record { choices = []; commits_are = refl; state_is = refl 
 pub possible-run : (t : Litmus) (d : ℕ) (cs : List Choice) → IsPossible t d (run t d cs).commits (run t d cs).state
 possible-run t d cs = let s = run-stops-at-end t d cs in record { choices = cs; commits_are = sym s.all_commits; state_is = sym s.all_state }
 
-pub possible-so-far : (t : Litmus) (d : ℕ) (commits : List Entry) (state : State) → IsTest t → IsPossible t d commits state → SoFar t d commits state
+pub possible-so-far : (t : Litmus) (d : ℕ) (commits : List Entry) (state : State) → IsWellFormed t → IsPossible t d commits state → SoFar t d commits state
 possible-so-far t d commits state test p = rw (← p.commits_are, ← p.state_is) (choices-so-far t d p.choices test)

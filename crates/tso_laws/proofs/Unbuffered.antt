@@ -1,7 +1,7 @@
 -- Every order that keeps all of program order is that of a run without store buffers.
 use Rattle.tso_laws.proofs.EndsVocabulary.{◌≡◌, ◌<◌, ℕ, ◌+◌, zero, suc, true, ◌==◌, List, [], ◌∷◌, ◌++◌, Some, slice_get, slice_index_or}
 use Rattle.tso_laws.proofs.EndsVocabulary.{length, inl, inr, arith, ap, sym, ◌∙◌, subst, refl, append_assoc, and-left, and-right, before}
-use Rattle.tso_laws.proofs.EndsVocabulary.{Member, member-at, action_of, Litmus, IsTest, entry, IsTsoExecution, KeepsAllOrder, CoreState}
+use Rattle.tso_laws.proofs.EndsVocabulary.{Member, member-at, action_of, Litmus, IsWellFormed, entry, IsTsoExecution, KeepsAllOrder, CoreState}
 use Rattle.tso_laws.proofs.EndsVocabulary.{State, idle, is_none_pending, loaded, load_value, step_of, core_of, program_of, effect_of}
 use Rattle.tso_laws.proofs.EndsVocabulary.{chosen, after_choice, started, start, step, CoresExist, is_done, all_done, has_ended, run, Instr}
 use Rattle.tso_laws.proofs.EndsVocabulary.{Loc, Reg, Load, Entry, R, W, Choice, Step, Drain, state_after, commits_of, End, IsExecution}
@@ -130,8 +130,8 @@ size t d s [] n = n
 size t d s (c ∷ cs) n = size t d (after_choice t d s c) cs (length-set s.cores (chosen c) (effect_of t d s c).after ∙ n)
 
 module _ (stalls : StallsChangeNothing) (stop : RunsStopWhereTheyEnd) (exactly : RunsReachExactlyTheExecutions)
-    (ended : (t : Litmus) (depth : ℕ) (choices : List Choice) → IsTest t → End t depth choices → IsExecution t (run t depth choices))
-    (keeps : (t : Litmus) (choices : List Choice) → IsTest t → KeepsAllOrder (run t 0 choices).commits) where
+    (ended : (t : Litmus) (depth : ℕ) (choices : List Choice) → IsWellFormed t → End t depth choices → IsExecution t (run t depth choices))
+    (keeps : (t : Litmus) (choices : List Choice) → IsWellFormed t → KeepsAllOrder (run t 0 choices).commits) where
   followed : (t : Litmus) (order : List Entry) → KeepsAllOrder order → IsReached t 1 order → IsReached t 0 order
   followed t order k h =
       let s = stop.stops t 1 h.choices in
@@ -152,10 +152,10 @@ module _ (stalls : StallsChangeNothing) (stop : RunsStopWhereTheyEnd) (exactly :
         commits = r.all_commits ∙ p.commits ∙ order_is;
       }
 
-  reached : (t : Litmus) (order : List Entry) → IsTest t → IsSequentiallyConsistent t order → IsReached t 0 order
+  reached : (t : Litmus) (order : List Entry) → IsWellFormed t → IsSequentiallyConsistent t order → IsReached t 0 order
   reached t order test h = followed t order h.keeps ((exactly.by_depth t 1 order test (omega arith)).1 (h.execution, needs-one order h.keeps))
 
-  sequential : (t : Litmus) (order : List Entry) → IsTest t → IsReached t 0 order → IsSequentiallyConsistent t order
+  sequential : (t : Litmus) (order : List Entry) → IsWellFormed t → IsReached t 0 order → IsSequentiallyConsistent t order
   sequential t order test h = record {
     execution = subst (λ z. IsTsoExecution t z) h.commits (ended t 0 h.choices test h.ended).order;
     keeps = subst (λ z. KeepsAllOrder z) h.commits (keeps t h.choices test);

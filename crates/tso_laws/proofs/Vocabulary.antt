@@ -17,6 +17,7 @@ pub use Rattle.tso_terms.specs.declared.action.Action.TheVariants.{Store, Load, 
 pub use Rattle.std.proofs.lemmas.Option.{slice_get-get_or, slice_get_within, get_or_from_slice_get}
 pub use Rattle.std.proofs.lemmas.Bool.Decides.{nat_tests}
 pub use Rattle.tso_terms.specs.Litmus.{Litmus, IsTest, KnownLocation, HasWords, ConstantIsWord}
+pub use Rattle.tso_laws.specs.WellFormed.{IsWellFormed}
 pub use Rattle.tso_terms.specs.ProgramOrder.{is_read, is_before, may_be_passed, is_load, is_store, IsStorePart, writes_to, same_kind, is_write}
 pub use Rattle.tso_terms.specs.Axioms.{IsTsoExecution, IsAdjacent, KeepsProgramOrder, IsWhole, last_value, counting}
 pub use Rattle.tso_terms.specs.SequentialConsistency.{KeepsAllOrder}

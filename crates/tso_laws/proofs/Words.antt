@@ -12,7 +12,7 @@ use Rattle.tso_terms.specs.declared.instruction.Instr.TheVariants.{LockedCombine
 use Rattle.tso_laws.proofs.Vocabulary.{◌≡◌, ℕ, ◌+◌, ◌<◌, ◌≤◌, zero, suc, Bool, true, false, cond, ltb, List, [], ◌∷◌, ◌++◌, length, All}
 use Rattle.tso_laws.proofs.Vocabulary.{Option, Some, None, IfSome, slice_get, slice_index, slice_index_or, slice_set, refl, ◌∙◌, arith}
 use Rattle.tso_laws.proofs.Vocabulary.{subst, All-nil, All-cons, All-head, All-tail, All-append, All-push, All-set, All-filter, Litmus}
-use Rattle.tso_laws.proofs.Vocabulary.{IsTest, HasWords, ConstantIsWord, IsWord, AreRegisters, index_of, action_of, entry, fence, value_in}
+use Rattle.tso_laws.proofs.Vocabulary.{IsWellFormed, HasWords, ConstantIsWord, IsWord, AreRegisters, index_of, action_of, entry, fence, value_in}
 use Rattle.tso_laws.proofs.Vocabulary.{value_of, sum_of, updated, is_write, writes_to, last_value, CoreState, State, Effect, stalled}
 use Rattle.tso_laws.proofs.Vocabulary.{advanced_with, stored, load_value, loaded, moved, fenced, locked, effect_by, step_of, drain_of, idle}
 use Rattle.tso_laws.proofs.Vocabulary.{program_of, core_of, chosen, effect_of, memory_after, after_choice, started, start, Run, has_ended}
@@ -316,7 +316,7 @@ started-six core (p ∷ ps) registers l h =
     All-cons (λ (s : CoreState). length s.registers ≡ 6) _ (started (core + 1) ps registers)
     (registers-at registers core here h).six (started-six (core + 1) ps registers (omega arith) h)
 
-start-good : (t : Litmus) → IsTest t → Good (start t)
+start-good : (t : Litmus) → IsWellFormed t → Good (start t)
 start-good t test =
     let given : 0 + length t.programs ≤ length t.registers = let g = test.registers_given in omega arith in
     record {
@@ -328,7 +328,7 @@ start-good t test =
 both : (cores : List CoreState) → All GoodCore cores → All (λ s. length s.registers ≡ 6) cores → All (λ s. AreRegisters s.registers) cores
 both cores good six = λ k d l. record { six = six k d l; words = (good k d l).registers }
 
-pub runs-hold-words : (t : Litmus) (depth : ℕ) (choices : List Choice) → IsTest t → HoldsWords (run t depth choices).commits (run t depth choices).state
+pub runs-hold-words : (t : Litmus) (depth : ℕ) (choices : List Choice) → IsWellFormed t → HoldsWords (run t depth choices).commits (run t depth choices).state
 runs-hold-words t depth choices test =
     let r = run-good t depth (start t) choices test.values (start-good t test) in
     record { values = r.commits; memory = r.state.memory; registers = both (run t depth choices).state.cores r.state.cores r.state.six }

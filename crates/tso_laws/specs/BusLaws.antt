@@ -1,7 +1,8 @@
 -- What the laws say that are too long for a line: each is the contract of the function of the same name. (Primer, chapter
 -- 7, for the split bus; what asks, waits and acts at once is this project's profile.)
 use Rattle.std.specs.Prelude.{ℕ, ◌*◌, ◌≡◌, true, List, length}
-use Rattle.tso_terms.specs.Litmus.{Litmus, IsTest}
+use Rattle.tso_terms.specs.Litmus.{Litmus}
+use Rattle.tso_laws.specs.WellFormed.{IsWellFormed}
 use Rattle.tso_terms.specs.FlatMachine.{start}
 use Rattle.tso_terms.specs.Runs.{run, has_ended}
 use Rattle.tso_terms.specs.SplitMachine.{Free, Attempt}
@@ -25,7 +26,7 @@ pub record WhatHoldsSoFarOnEitherBus : Type 0 where
 abbrev pub EndedRunsOnEitherBusAreExecutions : Type 0
 EndedRunsOnEitherBusAreExecutions =
     (bus : Bus) (t : Litmus) (depth : ℕ) (attempts : List Attempt)
-    → IsTest t → HitsFit bus t depth (unheld (start t)) attempts → EndOn bus t depth attempts
+    → IsWellFormed t → HitsFit bus t depth (unheld (start t)) attempts → EndOn bus t depth attempts
     → IsExecution t (together (run_on bus t depth attempts).run)
 
 abbrev pub RunsOnEitherBusAreFlatRuns : Type 0

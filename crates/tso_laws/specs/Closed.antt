@@ -1,7 +1,8 @@
 -- Lists of states that miss none of the ended ones, but for dead registers and exchanges of cores that are alike: whatever a choice
 -- makes of a state of the list is in it again, once eager choices are made, dead registers are forgotten, and such cores exchanged.
 use Rattle.std.specs.Prelude.{ℕ, ◌≡◌, ◌<◌, Bool, true, List, [], ◌∷◌, length, Some, slice_get, ◌⊎◌}
-use Rattle.tso_terms.specs.Litmus.{Litmus, IsTest}
+use Rattle.tso_terms.specs.Litmus.{Litmus}
+use Rattle.tso_laws.specs.WellFormed.{IsWellFormed}
 use Rattle.tso_terms.specs.FlatMachine.{State, start, chosen, after_choice}
 use Rattle.tso_terms.specs.Runs.{run}
 use Rattle.tso_terms.specs.declared.choice.Choice.{Choice}
@@ -68,12 +69,12 @@ pub record IsAlikeOneOf (t : Litmus) (hidden : List (List Bool)) (pairs : List (
 abbrev pub ClosedStatesMissNone : Type 0
 ClosedStatesMissNone =
     (depth : ℕ) (t : Litmus) (hidden : List (List Bool)) (pairs : List (ℕ × ℕ)) (states : List State) (choices : List Choice)
-    → IsTest t → AreAllAlike t hidden pairs → AreClosed depth t hidden pairs states → (run t depth choices).ended ≡ true
+    → IsWellFormed t → AreAllAlike t hidden pairs → AreClosed depth t hidden pairs states → (run t depth choices).ended ≡ true
     → IsAlikeOneOf t hidden pairs states (run t depth choices).state
 
 -- so it is where of some of the states only a stubborn set is expanded
 abbrev pub PartlyClosedStatesMissNone : Type 0
 PartlyClosedStatesMissNone =
     (depth : ℕ) (t : Litmus) (hidden : List (List Bool)) (pairs : List (ℕ × ℕ)) (states : List State) (choices : List Choice)
-    → IsTest t → AreAllAlike t hidden pairs → ArePartlyClosed depth t hidden pairs states → (run t depth choices).ended ≡ true
+    → IsWellFormed t → AreAllAlike t hidden pairs → ArePartlyClosed depth t hidden pairs states → (run t depth choices).ended ≡ true
     → IsAlikeOneOf t hidden pairs states (run t depth choices).state

@@ -3,6 +3,7 @@
 use Rattle.std.specs.Prelude.{ℕ, ◌+◌, ◌*◌, ◌<◌, ◌≤◌, ◌≡◌, ◌≢◌, ◌↔◌, List, length, All}
 use Rattle.tso_terms.specs.Limits.{most_depth}
 use Rattle.tso_terms.specs.Litmus.{Litmus, IsTest}
+use Rattle.tso_laws.specs.WellFormed.{IsWellFormed}
 use Rattle.tso_terms.specs.Axioms.{IsTsoExecution}
 use Rattle.tso_terms.specs.FlatMachine.{State, start}
 use Rattle.tso_terms.specs.Runs.{run}
@@ -20,11 +21,11 @@ use Rattle.tso_laws.specs.Words.{HasWord, HoldsWords}
 -- in each state that choices lead to, so after each list of choices and in each run, what holds so far
 pub record WhatHoldsSoFar : Type 0 where
   pub in_each_state : (t : Litmus) (depth : ℕ) (commits : List Entry) (state : State)
-      → IsTest t → IsPossible t depth commits state → SoFar t depth commits state
+      → IsWellFormed t → IsPossible t depth commits state → SoFar t depth commits state
   pub after_choices : (t : Litmus) (depth : ℕ) (choices : List Choice)
-      → IsTest t → SoFar t depth (commits_of t depth (start t) choices) (state_after t depth (start t) choices)
+      → IsWellFormed t → SoFar t depth (commits_of t depth (start t) choices) (state_after t depth (start t) choices)
   pub in_runs : (t : Litmus) (depth : ℕ) (choices : List Choice)
-      → IsTest t → SoFar t depth (run t depth choices).commits (run t depth choices).state
+      → IsWellFormed t → SoFar t depth (run t depth choices).commits (run t depth choices).state
 
 -- the choices that an ended run used, less those that stalled: one for each instruction, and with store buffers
 -- one more for each plain store
@@ -42,23 +43,23 @@ FairRoundsEnd =
 abbrev pub EveryExecutionIsReached : Type 0
 EveryExecutionIsReached =
     (t : Litmus) (depth : ℕ) (order : List Entry)
-    → IsTest t → IsTsoExecution t order → needed order ≤ depth → LeadTo t depth (choices_along t order) order
+    → IsWellFormed t → IsTsoExecution t order → needed order ≤ depth → LeadTo t depth (choices_along t order) order
 
 -- of the depths of 1 and more: a run needs no more than its own, and so commits no order that needs more
 pub record SmallerDepthsNeverReach : Type 0 where
   pub within : (t : Litmus) (depth : ℕ) (choices : List Choice)
-      → IsTest t → 0 < depth → needed (run t depth choices).commits ≤ depth
+      → IsWellFormed t → 0 < depth → needed (run t depth choices).commits ≤ depth
   pub never : (t : Litmus) (depth : ℕ) (order : List Entry) (choices : List Choice)
-      → IsTest t → 0 < depth → depth < needed order → (run t depth choices).commits ≢ order
+      → IsWellFormed t → 0 < depth → depth < needed order → (run t depth choices).commits ≢ order
 
 -- at a depth of 1 or more the executions that need no more; at the greatest depth all
 pub record RunsReachExactlyTheExecutions : Type 0 where
   pub by_depth : (t : Litmus) (depth : ℕ) (order : List Entry)
-      → IsTest t → 0 < depth → IsReached t depth order ↔ (IsTsoExecution t order × (needed order ≤ depth))
+      → IsWellFormed t → 0 < depth → IsReached t depth order ↔ (IsTsoExecution t order × (needed order ≤ depth))
   pub at_the_greatest : (t : Litmus) (order : List Entry)
       → IsTest t → IsReached t most_depth order ↔ IsTsoExecution t order
 
 pub record ValuesAreWords : Type 0 where
   pub in_runs : (t : Litmus) (depth : ℕ) (choices : List Choice)
-      → IsTest t → HoldsWords (run t depth choices).commits (run t depth choices).state
-  pub in_executions : (t : Litmus) (order : List Entry) → IsTest t → IsTsoExecution t order → All HasWord order
+      → IsWellFormed t → HoldsWords (run t depth choices).commits (run t depth choices).state
+  pub in_executions : (t : Litmus) (order : List Entry) → IsWellFormed t → IsTsoExecution t order → All HasWord order

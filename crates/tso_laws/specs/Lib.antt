@@ -1,3 +1,4 @@
+pub mod WellFormed
 pub mod Choices
 pub mod Entries
 pub mod SoFar

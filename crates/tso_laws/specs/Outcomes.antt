@@ -3,6 +3,7 @@
 use Rattle.std.specs.Prelude.{ℕ, ◌+◌, ◌≡◌, ◌≤◌, ◌<◌, ◌↔◌, true, List, length}
 use Rattle.tso_terms.specs.Limits.{most_depth}
 use Rattle.tso_terms.specs.Litmus.{Litmus, IsTest}
+use Rattle.tso_laws.specs.WellFormed.{IsWellFormed}
 use Rattle.tso_terms.specs.Axioms.{IsTsoExecution}
 use Rattle.tso_terms.specs.SequentialConsistency.{KeepsAllOrder}
 use Rattle.tso_terms.specs.FinalState.{final_words, final_registers}
@@ -60,17 +61,17 @@ pub record IsAllowedSequentially (t : Litmus) (registers : List (List ℕ)) (mem
 -- without store buffers, at depth 0, runs end with exactly these orders
 abbrev pub UnbufferedRunsReachExactlyTheSequentiallyConsistent : Type 0
 UnbufferedRunsReachExactlyTheSequentiallyConsistent =
-    (t : Litmus) (order : List Entry) → IsTest t → IsReached t 0 order ↔ IsSequentiallyConsistent t order
+    (t : Litmus) (order : List Entry) → IsWellFormed t → IsReached t 0 order ↔ IsSequentiallyConsistent t order
 
 -- the ends of the machine's runs are what TSO allows: at a depth of 1 or more of the executions that need no more, at the
 -- greatest depth of all, and at depth 0 what sequential consistency allows
 pub record EndsAreWhatTsoAllows : Type 0 where
   pub by_depth : (t : Litmus) (depth : ℕ) (registers : List (List ℕ)) (memory : List ℕ)
-      → IsTest t → 0 < depth → IsEnd t depth registers memory ↔ IsAllowedAtDepth t depth registers memory
+      → IsWellFormed t → 0 < depth → IsEnd t depth registers memory ↔ IsAllowedAtDepth t depth registers memory
   pub at_the_greatest : (t : Litmus) (registers : List (List ℕ)) (memory : List ℕ)
       → IsTest t → IsEnd t most_depth registers memory ↔ IsAllowedByTso t registers memory
   pub unbuffered : (t : Litmus) (registers : List (List ℕ)) (memory : List ℕ)
-      → IsTest t → IsEnd t 0 registers memory ↔ IsAllowedSequentially t registers memory
+      → IsWellFormed t → IsEnd t 0 registers memory ↔ IsAllowedSequentially t registers memory
 
 -- all such choices of a test are as many: one for each instruction, and with store buffers one more for each plain store
 pub record ChoicesToAnEndAreCounted : Type 0 where

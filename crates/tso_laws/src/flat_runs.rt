@@ -5,6 +5,7 @@
 ghost use Rattle.std.specs.Prelude.{ℕ, max, ◌≤◌, ◌≡◌, List, [], ◌∷◌};
 ghost use Rattle.tso_terms.specs.Limits.{most_depth};
 ghost use Rattle.tso_terms.specs.Litmus.{Litmus, IsTest};
+ghost use Rattle.tso_laws.specs.WellFormed.{IsWellFormed};
 ghost use Rattle.tso_terms.specs.ProgramEntries.{made};
 ghost use Rattle.tso_terms.specs.Axioms.{IsTsoExecution};
 ghost use Rattle.tso_terms.specs.Standing.{StandsIn};
@@ -39,7 +40,7 @@ pub fn what_holds_so_far()
 /// Each entry that the programs make, whatever values their reads are given, has a core, a place
 /// and a location of the test; a fence has location 0 and value 0.
 pub fn made_entries_fit_the_test()
-    ensures { (t : Litmus) (order : List Entry) (e : Entry) → IsTest t → StandsIn (made t order) e → FitsTest t e }
+    ensures { (t : Litmus) (order : List Entry) (e : Entry) → IsWellFormed t → StandsIn (made t order) e → FitsTest t e }
 {}
 
 /// Where an order is whole, each of its entries is made by the programs and is in it once; its
@@ -51,7 +52,7 @@ pub fn whole_orders_have_each_entry_once()
 /// What an ended run commits is a TSO execution of the test, and its memory and registers are the
 /// final state of that order.
 pub fn ended_runs_are_executions()
-    ensures { (t : Litmus) (depth : ℕ) (choices : List Choice) → IsTest t → End t depth choices → IsExecution t (run t depth choices) }
+    ensures { (t : Litmus) (depth : ℕ) (choices : List Choice) → IsWellFormed t → End t depth choices → IsExecution t (run t depth choices) }
 {}
 
 /// A run uses its choices up to the first moment at which the test has ended, and counts the
@@ -81,7 +82,7 @@ pub fn fair_rounds_end()
 /// At depth 0, where no store is ever pending, the order of a run keeps every two entries of program
 /// order, without exception: sequential consistency.
 pub fn no_buffer_no_reordering()
-    ensures { (t : Litmus) (choices : List Choice) → IsTest t → KeepsAllOrder (run t 0 choices).commits }
+    ensures { (t : Litmus) (choices : List Choice) → IsWellFormed t → KeepsAllOrder (run t 0 choices).commits }
 {}
 
 /// The choices made along a TSO execution end the test with that very order, where the depth is

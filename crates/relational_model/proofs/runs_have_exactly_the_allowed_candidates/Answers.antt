@@ -1,3 +1,4 @@
+use Rattle.tso_laws.proofs.WellFormed.{well-formed}
 use Rattle.relational_model.proofs.Vocabulary.{◌∙◌, sym, ap, subst, most_depth, run, final_words, final_registers, IsCandidateOf, IsCandidateOfRun}
 use Rattle.relational_model.proofs.Allowed.{Whole, is-allowed}
 use Rattle.relational_model.proofs.Found.{has-candidate}
@@ -8,7 +9,7 @@ use Rattle.relational_model.proofs.runs_have_exactly_the_allowed_candidates.Goal
 pub returns-clause-allowed : goal.returns-clause-allowed
 returns-clause-allowed c = λ t depth choices test ended.
     let k = c.whole_orders_have_each_entry_once.ensures in
-    let r = c.ended_runs_are_executions.ensures t depth choices test ended in
+    let r = c.ended_runs_are_executions.ensures t depth choices (well-formed t test) ended in
     let order = (run t depth choices).commits in
     let whole : Whole t order = record
     { made = λ e i. k.made_by_the_programs t order e r.order.whole i; once = λ i j e p q. k.once t order i j e r.order.whole p q } in
@@ -22,7 +23,7 @@ pub returns-clause-reached : goal.returns-clause-reached
 returns-clause-reached c = λ t d test a.
     let o = is-of-an-execution t d a in
     let h = (c.runs_reach_exactly_the_executions.ensures.at_the_greatest t o.order test).1 o.execution in
-    let r = c.ended_runs_are_executions.ensures t most_depth h.choices test h.ended in (
+    let r = c.ended_runs_are_executions.ensures t most_depth h.choices (well-formed t test) h.ended in (
       h.choices,
       h.cores,
       h.ended,

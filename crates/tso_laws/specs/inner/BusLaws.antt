@@ -1,6 +1,7 @@
 -- What those laws say that the steps of a proof need, and no public promise names.
 use Rattle.std.specs.Prelude.{ℕ, ◌≡◌, ◌≢◌, false, List, [], ◌++◌}
-use Rattle.tso_terms.specs.Litmus.{Litmus, IsTest}
+use Rattle.tso_terms.specs.Litmus.{Litmus}
+use Rattle.tso_laws.specs.WellFormed.{IsWellFormed}
 use Rattle.tso_terms.specs.SequentialConsistency.{KeepsAllOrder}
 use Rattle.tso_terms.specs.FlatMachine.{State, start, after_choice}
 use Rattle.tso_terms.specs.Runs.{run}
@@ -48,7 +49,7 @@ StallsOnEitherBusChangeNothing =
 abbrev pub NoBufferNoReorderingOnEitherBus : Type 0
 NoBufferNoReorderingOnEitherBus =
     (bus : Bus) (t : Litmus) (attempts : List Attempt)
-    → IsTest t → HitsFit bus t 0 (unheld (start t)) attempts → EndOn bus t 0 attempts
+    → IsWellFormed t → HitsFit bus t 0 (unheld (start t)) attempts → EndOn bus t 0 attempts
     → KeepsAllOrder (put_together (run_on bus t 0 attempts).run.commits)
 
 abbrev pub AccessesWait : Type 0

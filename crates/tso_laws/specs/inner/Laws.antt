@@ -1,6 +1,7 @@
 -- What those laws say that the steps of a proof need, and no public promise names.
 use Rattle.std.specs.Prelude.{ℕ, ◌≡◌, List, [], ◌++◌, slice_get, Some}
-use Rattle.tso_terms.specs.Litmus.{Litmus, IsTest}
+use Rattle.tso_terms.specs.Litmus.{Litmus}
+use Rattle.tso_laws.specs.WellFormed.{IsWellFormed}
 use Rattle.tso_terms.specs.ProgramEntries.{made}
 use Rattle.tso_terms.specs.Axioms.{IsWhole}
 use Rattle.tso_terms.specs.Standing.{StandsIn}
@@ -28,7 +29,7 @@ pub record WholeOrdersHaveEachEntryOnce : Type 0 where
   pub once : (t : Litmus) (order : List Entry) (i j : ℕ) (e : Entry)
       → IsWhole t order → slice_get order i ≡ Some e → slice_get order j ≡ Some e → i ≡ j
   pub fits : (t : Litmus) (order : List Entry) (e : Entry)
-      → IsTest t → IsWhole t order → StandsIn order e → FitsTest t e
+      → IsWellFormed t → IsWhole t order → StandsIn order e → FitsTest t e
 
 -- a run stops at the first moment at which the test has ended; no further choice does anything
 pub record RunsStopWhereTheyEnd : Type 0 where

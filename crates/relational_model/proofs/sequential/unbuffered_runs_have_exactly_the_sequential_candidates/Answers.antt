@@ -1,3 +1,4 @@
+use Rattle.tso_laws.proofs.WellFormed.{well-formed}
 use Rattle.relational_model.proofs.Vocabulary.{◌∙◌, sym, ap, subst, run, final_words, final_registers, IsCandidateOf, IsCandidateOfRun}
 use Rattle.relational_model.proofs.Allowed.{Whole}
 use Rattle.relational_model.proofs.Found.{has-candidate}
@@ -9,7 +10,7 @@ use Rattle.relational_model.proofs.sequential.unbuffered_runs_have_exactly_the_s
 pub returns-clause-sequential : goal.returns-clause-sequential
 returns-clause-sequential c = λ t choices test ended.
     let k = c.whole_orders_have_each_entry_once.ensures in
-    let r = c.ended_runs_are_executions.ensures t 0 choices test ended in
+    let r = c.ended_runs_are_executions.ensures t 0 choices (well-formed t test) ended in
     let order = (run t 0 choices).commits in
     let whole : Whole t order = record
     { made = λ e i. k.made_by_the_programs t order e r.order.whole i; once = λ i j e p q. k.once t order i j e r.order.whole p q } in
@@ -17,13 +18,13 @@ returns-clause-sequential c = λ t choices test ended.
     let s = leave-the-same t order d.0 d.1 in
     let of : IsCandidateOfRun t (run t 0 choices) d.0 = record
     { order = d.1; memory = r.memory ∙ sym s.memory; registers = r.registers ∙ sym s.registers } in
-    (d.0, is-sequential t order d.0 whole r.order (c.no_buffer_no_reordering.ensures t choices test) d.1, of)
+    (d.0, is-sequential t order d.0 whole r.order (c.no_buffer_no_reordering.ensures t choices (well-formed t test)) d.1, of)
 
 pub returns-clause-reached : goal.returns-clause-reached
 returns-clause-reached c = λ t d test a.
     let o = is-of-a-sequential-execution t d a in
-    let h = (c.unbuffered_runs_reach_exactly_the_sequentially_consistent.ensures t o.order test).1 o.consistent in
-    let r = c.ended_runs_are_executions.ensures t 0 h.choices test h.ended in (
+    let h = (c.unbuffered_runs_reach_exactly_the_sequentially_consistent.ensures t o.order (well-formed t test)).1 o.consistent in
+    let r = c.ended_runs_are_executions.ensures t 0 h.choices (well-formed t test) h.ended in (
       h.choices,
       h.cores,
       h.ended,

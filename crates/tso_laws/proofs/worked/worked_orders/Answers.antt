@@ -1,3 +1,4 @@
+use Rattle.tso_laws.proofs.WellFormed.{well-formed}
 use Rattle.tso_laws.proofs.Vocabulary.{◌≡◌, ◌<◌, ℕ, [], Some, slice_get, arith, refl, ap, ◌∙◌, rules, IsTest, sb, sb_choices, n6}
 use Rattle.tso_laws.proofs.Vocabulary.{separated_order, loc_x, loc_y, entry, IsStorePart, Entry, R, W, LR, LW, n6_along}
 use Rattle.tso_laws.proofs.SoFar.{test-locations}
@@ -11,10 +12,10 @@ n6-is-test : IsTest n6
 n6-is-test = search rules
 
 pub returns-clause-sb_is_allowed : goal.returns-clause-sb_is_allowed
-returns-clause-sb_is_allowed c = (run-is-execution sb 4 sb_choices (test-locations sb sb-is-test) refl).order
+returns-clause-sb_is_allowed c = (run-is-execution sb 4 sb_choices (test-locations sb (well-formed sb sb-is-test)) refl).order
 
 pub returns-clause-n6_is_allowed : goal.returns-clause-n6_is_allowed
-returns-clause-n6_is_allowed c = (run-is-execution n6 1 n6_along (test-locations n6 n6-is-test) refl).order
+returns-clause-n6_is_allowed c = (run-is-execution n6 1 n6_along (test-locations n6 (well-formed n6 n6-is-test)) refl).order
 
 pub returns-clause-short_is_not_whole : goal.returns-clause-short_is_not_whole
 returns-clause-short_is_not_whole c = λ tso. let count : 3 ≡ 4 = tso.whole.count in absurd (omega arith)
