@@ -1,5 +1,5 @@
 -- The final states that a search finds are what TSO allows.
-use Rattle.explorer.proofs.Vocabulary.{◌≡◌, ℕ, Bool, List, sym, subst, most_depth, Litmus, IsTest, Choice, IsEnd, LeadToEnd}
+use Rattle.explorer.proofs.Vocabulary.{◌≡◌, ℕ, Bool, List, sym, subst, most_depth, Litmus, IsTest, well-formed, Choice, IsEnd, LeadToEnd}
 use Rattle.explorer.proofs.Vocabulary.{EndsAreWhatTsoAllows, AreReached, HaveEveryEnd, AreWhatTsoAllows, AreWhatSequentialConsistencyAllows}
 use Rattle.explorer.proofs.Vocabulary.{FinalState}
 
@@ -30,7 +30,7 @@ pub finals-sequential : EndsAreWhatTsoAllows
     → AreWhatSequentialConsistencyAllows t hidden fs
 finals-sequential law t d hidden fs test h every q = record {
   allowed = λ i f at.
-      (law.unbuffered t f.registers.items f.memory.items test).0
+      (law.unbuffered t f.registers.items f.memory.items (well-formed t test)).0
       (subst (λ z. IsEnd t z f.registers.items f.memory.items) q (end-of t d f.choices.items _ _ (h i f at)));
-  complete = λ r m a. every r m (subst (λ z. IsEnd t z r m) (sym q) ((law.unbuffered t r m test).1 a));
+  complete = λ r m a. every r m (subst (λ z. IsEnd t z r m) (sym q) ((law.unbuffered t r m (well-formed t test)).1 a));
 }

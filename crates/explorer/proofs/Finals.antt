@@ -1,6 +1,6 @@
 -- The final states among the kept ones, one more at a time.
 use Rattle.explorer.proofs.Vocabulary.{◌≡◌, ◌<◌, ℕ, ◌+◌, Bool, true, false, List, [], ◌∷◌, ◌++◌, length, map, Some, slice_get, inl, inr}
-use Rattle.explorer.proofs.Vocabulary.{arith, ap, sym, ◌∙◌, subst, refl, IsDistinct, lt-or, Litmus, IsTest, State, registers_in, run}
+use Rattle.explorer.proofs.Vocabulary.{arith, ap, sym, ◌∙◌, subst, refl, IsDistinct, lt-or, Litmus, IsTest, well-formed, State, registers_in, run}
 use Rattle.explorer.proofs.Vocabulary.{has_ended, RunsStopWhereTheyEnd, PartlyClosedStatesMissNone, forgotten, AreAlike, seen}
 use Rattle.explorer.proofs.Vocabulary.{DeadRegistersChangeNothing, AreAllAlike, AlikeCoresAreExchangeable, state_of_packed, HaveCores}
 use Rattle.explorer.proofs.Vocabulary.{AreReached, Have, HaveEveryEnd, AreDistinct, IsFinalOf, IsMadeOf, AreFinalsOf, MissesNoEnd, Packed}
@@ -177,7 +177,7 @@ pub finals-complete : DeadRegistersChangeNothing
     → (d : ℕ) (t : Litmus) (hidden : List (List Bool)) (pairs : List (ℕ × ℕ))
     (xs : List Packed) (fs : List FinalState) → IsTest t → AreAll d t hidden pairs xs → AreFinalsOf d t hidden xs (length xs) fs → HaveEveryEnd t d hidden fs
 finals-complete law all closed stop d t hidden pairs xs fs test w h registers memory e =
-    let m = closed d t hidden pairs (map state_of_packed w.whole.earlier) e.choices test w.alike w.whole.closed e.ended in
+    let m = closed d t hidden pairs (map state_of_packed w.whole.earlier) e.choices (well-formed t test) w.alike w.whole.closed e.ended in
     let last : State = (run t d e.choices).state in
     let ended : has_ended t last ≡ true = sym (stop.stops t d e.choices).ended ∙ e.ended in
     let k =

@@ -17,6 +17,7 @@ pub use Rattle.explorer.specs.declared.link.Turn.{Turn}
 pub use Rattle.flat_machine.specs.declared.snapshot.Processor.{Processor}
 pub use Rattle.flat_machine.proofs.Choosing.{map-set, beyond, map-at, on-ok-2, stall-why, takes-effect, on-ok, core-at}
 pub use Rattle.tso_terms.specs.Limits.{most_depth}
+pub use Rattle.tso_laws.proofs.WellFormed.{well-formed}
 pub use Rattle.tso_laws.specs.Outcomes.{IsEnd, LeadToEnd, EndsAreWhatTsoAllows}
 pub use Rattle.explorer.specs.FinalStates.{AreReached, HaveEveryEnd, AreWhatTsoAllows, AreWhatSequentialConsistencyAllows, IsReachable}
 pub use Rattle.explorer.specs.FinalStates.{HasMoreStates, Have, AreDistinct}

@@ -1,6 +1,6 @@
 -- Runs on either bus: the choices with the caches' answers, and what an ended run leaves.
 use Rattle.machine_runs.proofs.Vocabulary.{◌≡◌, ℕ, zero, suc, arith, true, List, [], ◌∷◌, ◌++◌, length, append-nil, refl, sym, ap, subst}
-use Rattle.machine_runs.proofs.Vocabulary.{◌∙◌, Litmus, IsTest, IsTsoExecution, KeepsAllOrder, State, start, Run, run, Free, Attempt}
+use Rattle.machine_runs.proofs.Vocabulary.{◌∙◌, Litmus, IsTest, IsWellFormed, well-formed, IsTsoExecution, KeepsAllOrder, State, start, Run, run, Free, Attempt}
 use Rattle.machine_runs.proofs.Vocabulary.{BusState, BusRun, unheld, run_on, after_on, choices_in, HitsFit, put_together, together, Bus}
 use Rattle.machine_runs.proofs.Vocabulary.{Atomic, Split, Choice, Entry, IsExecution, EndOn, waiting, IsFlatRun, Table, Caches, attempt_of}
 use Rattle.machine_runs.proofs.Vocabulary.{use_on, Configuration, run_by, AnswersFitBy}
@@ -72,8 +72,8 @@ pub record EndedRuns : Type 0 where
       → HitsFit bus t depth (unheld (start t)) attempts
       → IsFlatRun bus t depth attempts (run_on bus t depth attempts)
   pub free : (bus : Bus) (t : Litmus) (depth : ℕ) (attempts : List Attempt) → EndOn bus t depth attempts → (run_on bus t depth attempts).holder ≡ Free
-  pub executions : (t : Litmus) (depth : ℕ) (choices : List Choice) → IsTest t → (run t depth choices).ended ≡ true → IsExecution t (run t depth choices)
-  pub words : (t : Litmus) (depth : ℕ) (choices : List Choice) → IsTest t → HoldsWords (run t depth choices).commits (run t depth choices).state
+  pub executions : (t : Litmus) (depth : ℕ) (choices : List Choice) → IsWellFormed t → (run t depth choices).ended ≡ true → IsExecution t (run t depth choices)
+  pub words : (t : Litmus) (depth : ℕ) (choices : List Choice) → IsWellFormed t → HoldsWords (run t depth choices).commits (run t depth choices).state
 
 -- a run of the flat machine leaves the same
 record Followed (t : Litmus) (depth : ℕ) (r : Run) : Type 0 where
@@ -111,7 +111,8 @@ pub ended-execution : (table : Table) (c : Configuration) (t : Litmus) (choices 
     → (run_by c.bus table c t choices).ended ≡ true → IsExecution t (run_by c.bus table c t choices)
 ended-execution table c t choices laws test fit ended =
     let f = followed table c t choices laws fit ended in
-    execution-of t (run t c.depth f.choices) (run_by c.bus table c t choices) f.state f.commits (laws.executions t c.depth f.choices test f.ended)
+    execution-of t (run t c.depth f.choices) (run_by c.bus table c t choices) f.state f.commits
+    (laws.executions t c.depth f.choices (well-formed t test) f.ended)
 
 pub ended-words : (table : Table) (c : Configuration) (t : Litmus) (choices : List Choice) → EndedRuns → IsTest t → AnswersFitBy table c t choices
     → (run_by c.bus table c t choices).ended ≡ true → HoldsWords (run_by c.bus table c t choices).commits (run_by c.bus table c t choices).state
@@ -119,11 +120,11 @@ ended-words table c t choices laws test fit ended =
     let r = run_by c.bus table c t choices in
     let f = followed table c t choices laws fit ended in
     subst (λ (s : State). HoldsWords r.commits s) f.state
-    (subst (λ (es : List Entry). HoldsWords es (run t c.depth f.choices).state) f.commits (laws.words t c.depth f.choices test))
+    (subst (λ (es : List Entry). HoldsWords es (run t c.depth f.choices).state) f.commits (laws.words t c.depth f.choices (well-formed t test)))
 
 -- without buffers its order keeps program order without exception
 abbrev pub UnbufferedRuns : Type 0
-UnbufferedRuns = (bus : Bus) (t : Litmus) (attempts : List Attempt) → IsTest t → HitsFit bus t 0 (unheld (start t)) attempts → EndOn bus t 0 attempts
+UnbufferedRuns = (bus : Bus) (t : Litmus) (attempts : List Attempt) → IsWellFormed t → HitsFit bus t 0 (unheld (start t)) attempts → EndOn bus t 0 attempts
     → KeepsAllOrder (put_together (run_on bus t 0 attempts).run.commits)
 
 at-depth : (bus : Bus) (t : Litmus) (depth : ℕ) (attempts : List Attempt)
@@ -132,7 +133,7 @@ at-depth : (bus : Bus) (t : Litmus) (depth : ℕ) (attempts : List Attempt)
     → IsTest t
     → HitsFit bus t depth (unheld (start t)) attempts
     → EndOn bus t depth attempts → KeepsAllOrder (put_together (run_on bus t depth attempts).run.commits)
-at-depth bus t zero attempts law none test fit over = law bus t attempts test fit over
+at-depth bus t zero attempts law none test fit over = law bus t attempts (well-formed t test) fit over
 at-depth bus t (suc n) attempts law none test fit over = absurd (omega arith)
 
 pub ended-all-order : (table : Table) (c : Configuration) (t : Litmus) (choices : List Choice)

@@ -1,5 +1,5 @@
 -- What a driven machine is left with, as the answer of a simulation.
-use Rattle.machine_runs.proofs.Vocabulary.{◌≡◌, ◌-◌, ℕ, List, length, is_some, sym, ap, subst, ◌∙◌, Litmus, IsTest, IsWhole, Choice}
+use Rattle.machine_runs.proofs.Vocabulary.{◌≡◌, ◌-◌, ℕ, List, length, is_some, sym, ap, subst, ◌∙◌, Litmus, IsTest, well-formed, IsWhole, Choice}
 use Rattle.machine_runs.proofs.Vocabulary.{IsExecution, Table, Configuration, Running, shown_run, run_by, counts_by, AnswersFitBy}
 use Rattle.machine_runs.proofs.Vocabulary.{IsEndingOf, FitsEnding, HasCounts, IsEndingLeftBy, Ending, Ended, Unfinished}
 use Rattle.tso_laws.specs.inner.Laws.{WholeOrdersHaveEachEntryOnce}
@@ -45,7 +45,7 @@ ending-fits table config t old m choices used stalled unused (Ended run) laws va
     let execution : IsExecution t (run_by config.bus table config t choices) = laws.executions table config t choices valid fit ended.0 in
     let whole : IsWhole t order = subst (IsWhole t) (sym ended.1) execution.order.whole in
     record {
-      locations = locations-known t order (λ e stands. laws.once.fits t order e valid whole stands);
+      locations = locations-known t order (λ e stands. laws.once.fits t order e (well-formed t valid) whole stands);
       registers = l.cores ∙ ap (λ (u : Litmus). length u.programs) same;
       memory = l.locations ∙ ap (λ (u : Litmus). length u.locations) same;
       counts =

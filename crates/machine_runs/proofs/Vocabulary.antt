@@ -3,6 +3,8 @@ pub use Rattle.std.proofs.Common.{◌≡◌, ◌<◌, ◌-◌, ◌+◌, ◌*◌,
 pub use Rattle.std.proofs.Common.{slice_index_or, Option, Some, None, is_some, arith, ap, sym, ◌∙◌, refl}
 pub use Rattle.std.proofs.Common.{subst, ◌++◌, append-nil, ◌⊎◌, inl, inr, append_assoc, ◌≤◌, cond}
 pub use Rattle.tso_terms.specs.Litmus.{Litmus, IsTest}
+pub use Rattle.tso_laws.specs.WellFormed.{IsWellFormed}
+pub use Rattle.tso_laws.proofs.WellFormed.{well-formed}
 pub use Rattle.tso_terms.specs.SequentialConsistency.{KeepsAllOrder}
 pub use Rattle.tso_terms.specs.Condition.{Condition, truth_of, NamesExist, claim_of, condition_of}
 pub use Rattle.tso_terms.specs.FlatMachine.{State, registers_in, start}

@@ -28,6 +28,8 @@ pub use Rattle.tso_report.specs.Json.{json_report, json_unfinished, memory_value
 pub use Rattle.printed_laws.specs.Telling.{UnfinishedRunsAreTold, NameTheSame, ReportsTellTheirRuns, SweepsTellTheirCounts}
 pub use Rattle.printed_laws.specs.Telling.{ReportsTellTheirMachines, SweepsTellTheirMachines}
 pub use Rattle.tso_terms.specs.Litmus.{Litmus, IsTest, are_distinct, IsProgram, KnownLocation, ConstantIsWord}
+pub use Rattle.tso_laws.specs.WellFormed.{IsWellFormed}
+pub use Rattle.tso_laws.proofs.WellFormed.{well-formed}
 pub use Rattle.tso_terms.specs.Names.{is_printable, is_test_name, is_among, is_name, is_location_name, continues_name}
 pub use Rattle.basic_laws.specs.Types.{Bus, Atomic, Split, Reg, Entry, Eax, Ebx, Ecx, Edx, Esi, Edi, Choice, Drain, Core, Loc, Kind, R, W}
 pub use Rattle.basic_laws.specs.Types.{F, LR, LW, Stall, Committed, Buffered, Moved, Asked, Stalled, Instr}

@@ -1,6 +1,6 @@
 -- What a search finds with store buffers, and what it hides.
 use Rattle.promises.proofs.Vocabulary.{◌≡◌, ◌∙◌, ◌<◌, ℕ, Bool, false, ◌||◌, List, length, IfOk, Ok, Err, Result, Some, None, Vec, ap}
-use Rattle.promises.proofs.Vocabulary.{Litmus, IsTest, EndsAreWhatTsoAllows, IsAllowedAtDepth, AreReached, HaveEveryEnd, AreWhat}
+use Rattle.promises.proofs.Vocabulary.{Litmus, IsTest, well-formed, EndsAreWhatTsoAllows, IsAllowedAtDepth, AreReached, HaveEveryEnd, AreWhat}
 use Rattle.std.specs.declared.alloc.Global.{Global}
 use Rattle.tso_terms.specs.Condition as conditions
 use Rattle.tso_report.specs.declared.show.Show.TheVariants.{Condition}
@@ -15,9 +15,9 @@ pub found-allowed : {E : Type 0} (r : Result Exploration E) (t : Litmus) (depth 
 found-allowed (Ok x) t depth hidden laws test reached complete = λ some. record {
   allowed = λ i f stands.
       let lead = reached i f stands in
-      (laws.by_depth t depth f.registers.items f.memory.items test some).0
+      (laws.by_depth t depth f.registers.items f.memory.items (well-formed t test) some).0
       (record { choices = f.choices.items; cores = lead.cores; ended = lead.ended; registers_are = lead.registers_are; memory_is = lead.memory_is });
-  complete = λ registers memory allowed. complete registers memory ((laws.by_depth t depth registers memory test some).1 allowed);
+  complete = λ registers memory allowed. complete registers memory ((laws.by_depth t depth registers memory (well-formed t test) some).1 allowed);
 }
 found-allowed (Err e) t depth hidden laws test reached complete = tt
 

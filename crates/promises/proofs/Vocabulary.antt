@@ -13,6 +13,7 @@ pub use Rattle.tso_laws.specs.Dead.{seen, AreAlike}
 pub use Rattle.explorer.specs.FinalStates.{AreWhat, AreAmong, AreReached, HaveEveryEnd}
 pub use Rattle.std.proofs.lemmas.List.{append_assoc, length-append}
 pub use Rattle.tso_laws.specs.Outcomes.{EndsAreWhatTsoAllows, IsAllowedAtDepth, IsAllowedByTso, IsAllowedSequentially}
+pub use Rattle.tso_laws.proofs.WellFormed.{well-formed}
 pub use Rattle.tso_terms.specs.Condition.{Claim, truth_of}
 pub use Rattle.tso_terms.specs.FlatMachine.{chosen, core_of, effect_of, registers_in}
 pub use Rattle.trace_report.specs.Shown.{ShownStep}

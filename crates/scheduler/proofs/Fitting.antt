@@ -1,13 +1,14 @@
 -- The entries of an execution are of its test.
-use Rattle.scheduler.proofs.Vocabulary.{ℕ, ◌<◌, List, [], length, get_or, arith, slice_get-get_or, All-get_or, Litmus, IsTest, IsProgram}
+use Rattle.scheduler.proofs.Vocabulary.{ℕ, ◌<◌, List, [], length, get_or, arith, slice_get-get_or, All-get_or, Litmus, IsTest, IsWellFormed}
+use Rattle.scheduler.proofs.Vocabulary.{well-formed, IsProgram}
 use Rattle.scheduler.proofs.Vocabulary.{IsWhole, StandsIn, Entry, FitsTest}
 
 -- the law that each entry of a whole order is of the test
 abbrev pub Fits : Type 0
-Fits = (t : Litmus) (order : List Entry) (e : Entry) → IsTest t → IsWhole t order → StandsIn order e → FitsTest t e
+Fits = (t : Litmus) (order : List Entry) (e : Entry) → IsWellFormed t → IsWhole t order → StandsIn order e → FitsTest t e
 
 fits-at : Fits → (t : Litmus) (order : List Entry) → IsTest t → IsWhole t order → (k : ℕ) (d : Entry) → k < length order → FitsTest t (get_or order k d)
-fits-at law t order test whole k d h = law t order (get_or order k d) test whole (k, slice_get-get_or order k d h)
+fits-at law t order test whole k d h = law t order (get_or order k d) (well-formed t test) whole (k, slice_get-get_or order k d h)
 
 pub core-at : Fits
     → (t : Litmus) (order : List Entry)

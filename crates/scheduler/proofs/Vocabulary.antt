@@ -51,6 +51,8 @@ pub use Rattle.std.proofs.lemmas.Option.{slice_get-get_or}
 pub use Rattle.tso_terms.specs.Litmus.{Litmus, IsTest, IsProgram}
 pub use Rattle.tso_terms.specs.Axioms.{IsWhole}
 pub use Rattle.tso_terms.specs.Standing.{StandsIn}
+pub use Rattle.tso_laws.specs.WellFormed.{IsWellFormed}
+pub use Rattle.tso_laws.proofs.WellFormed.{well-formed}
 pub use Rattle.tso_laws.specs.Entries.{FitsTest}
 pub use Rattle.std.proofs.Math.ListN.{set, length-set}
 pub use Rattle.std.proofs.lemmas.List.Sums.{sum_by-set, get_or-le-sum_by}

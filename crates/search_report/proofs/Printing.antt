@@ -1,6 +1,7 @@
 -- What is printed of the final states that a search found.
 use Rattle.search_report.proofs.Vocabulary.{◌≡◌, ◌∙◌, ℕ, suc, ◌+◌, Bool, List, [], ◌∷◌, length, slice_index_or, All, refl, sym, ap, subst}
-use Rattle.search_report.proofs.Vocabulary.{values_of, slice_get-get_or, Litmus, IsTest, AreReached, FinalState, Named, is_as_claimed}
+use Rattle.search_report.proofs.Vocabulary.{values_of, slice_get-get_or, Litmus, IsTest, IsWellFormed, well-formed, AreReached, FinalState}
+use Rattle.search_report.proofs.Vocabulary.{Named, is_as_claimed}
 use Rattle.search_report.proofs.Vocabulary.{Outcome, outcome_of, is_met_in, outcomes_in, PrintsOutcomes, IsOutcomeOf, kept_after, AreShown}
 use Rattle.tso_terms.specs.FinalState.{words_from, registers_from}
 use Rattle.tso_terms.specs.Runs.{run}
@@ -21,7 +22,7 @@ as-many-cores core [] registers order = refl
 as-many-cores core (p ∷ ps) registers order = ap suc (as-many-cores (core + 1) ps registers order)
 
 abbrev pub EndedRunsAreExecutions : Type 0
-EndedRunsAreExecutions = (t : Litmus) (depth : ℕ) (choices : List Choice) → IsTest t → End t depth choices → IsExecution t (run t depth choices)
+EndedRunsAreExecutions = (t : Litmus) (depth : ℕ) (choices : List Choice) → IsWellFormed t → End t depth choices → IsExecution t (run t depth choices)
 
 end-whole : (t : Litmus) (depth : ℕ) (f : FinalState)
     → EndedRunsAreExecutions
@@ -30,7 +31,7 @@ end-whole : (t : Litmus) (depth : ℕ) (f : FinalState)
     → IsOutcomeOf t (outcome_of f)
 end-whole t depth f law test lead =
     let r = run t depth f.choices.items in
-    let left = law t depth f.choices.items test lead.ended in
+    let left = law t depth f.choices.items (well-formed t test) lead.ended in
     record {
       registers = ap length (sym lead.registers_are ∙ left.registers) ∙ as-many-cores 0 t.programs t.registers r.commits;
       memory = ap length (sym lead.memory_is ∙ left.memory) ∙ (as-many-words 0 t.words r.commits ∙ test.words_given);

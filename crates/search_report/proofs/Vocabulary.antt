@@ -17,6 +17,8 @@ pub use Rattle.std.specs.declared.cmp.Ordering.TheVariants.{Greater}
 pub use Rattle.std.proofs.lemmas.List.Elements.{All-from_recursion, recursion_from_All, All-head, All-tail, All-nil, All-cons}
 pub use Rattle.std.proofs.lemmas.List.{get_or-map, length-map, drop_more, drop_all, at_drop_more, take_all, length-drop, append-nil}
 pub use Rattle.tso_terms.specs.Litmus.{Litmus, IsTest, IsCondition}
+pub use Rattle.tso_laws.specs.WellFormed.{IsWellFormed}
+pub use Rattle.tso_laws.proofs.WellFormed.{well-formed}
 pub use Rattle.explorer.specs.declared.final_states.FinalState.{FinalState}
 pub use Rattle.tso_report.specs.Tally.{shown_value, claim_names_register, claim_names_location, is_looked_at, named_register}
 pub use Rattle.tso_report.specs.Tally.{named_location, named_registers, named_locations, looked_at, values_in}

@@ -1,6 +1,7 @@
 -- What `check` answers, and what that means.
 use Rattle.tso_cli.proofs.Vocabulary.{◌≡◌, ◌≢◌, ℕ, false, ◌<◌, ◌≤◌, ◌^◌, List, [], length, get_or, Some, slice_get, slice_index_or, All}
-use Rattle.tso_cli.proofs.Vocabulary.{refl, sym, ap, subst, arith, slice_get-get_or, Litmus, IsTest, IsWhole, IsTsoExecution, StandsIn, Run}
+use Rattle.tso_cli.proofs.Vocabulary.{refl, sym, ap, subst, arith, slice_get-get_or, Litmus, IsTest, IsWellFormed, well-formed, IsWhole}
+use Rattle.tso_cli.proofs.Vocabulary.{IsTsoExecution, StandsIn, Run}
 use Rattle.tso_cli.proofs.Vocabulary.{program_of, Entry, FitsTest, IsExecution, HasWord, HasAccess, IsEntryFor, IsOrderFor, SpellsOrder}
 use Rattle.tso_cli.proofs.Vocabulary.{HasFault, OrderFault, IsFirstBreach, Breach, ProtocolKind, Configuration, report, ShownRun, shown_of}
 use Rattle.tso_cli.proofs.Vocabulary.{IsCheckAnswer, IsJudgement, valid, valid_line, invalid_line, JudgesOrder, JudgesEachOrder}
@@ -108,10 +109,10 @@ pub run-spells : (t : Litmus) (kind : ProtocolKind) (c : Configuration) (r : Run
     → IsShapeWithinLimits c.shape
     → IsOrderFor t s.order
     → SpellsOrder t (report t kind c s) s.order)
-    → ((t : Litmus) (order : List Entry) (e : Entry) → IsTest t → IsWhole t order → StandsIn order e → FitsTest t e)
+    → ((t : Litmus) (order : List Entry) (e : Entry) → IsWellFormed t → IsWhole t order → StandsIn order e → FitsTest t e)
     → IsExecution t r → s ≡ shown_of t s.counts r → text ≡ report t kind c s → All HasWord s.order → SpellsOrder t text r.commits
 run-spells t kind c r s text test small shape law fits execution same printed words =
     let order : s.order ≡ r.commits = ap (λ (s : ShownRun). s.order) same in
     let whole : IsWhole t s.order = subst (IsWhole t) (sym order) execution.order.whole in
-    let are : IsOrderFor t s.order = order-for t s.order test (λ e stands. fits t s.order e test whole stands) words in
+    let are : IsOrderFor t s.order = order-for t s.order test (λ e stands. fits t s.order e (well-formed t test) whole stands) words in
     subst (SpellsOrder t text) order (subst (λ o. SpellsOrder t o s.order) (sym printed) (law t kind c s test small shape are))

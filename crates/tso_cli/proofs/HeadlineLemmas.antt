@@ -1,6 +1,6 @@
 -- The headline holds of each answer.
 use Rattle.tso_cli.proofs.Vocabulary.{◌≡◌, ◌<◌, ◌^◌, ℕ, Bool, List, ◌++◌, length, true, false, Option, Some, None, IfSome, subst, refl}
-use Rattle.tso_cli.proofs.Vocabulary.{arith, Litmus, IsTest, IsWhole, StandsIn, KeepsAllOrder, Bus, Atomic, Choice, Entry, FitsTest}
+use Rattle.tso_cli.proofs.Vocabulary.{arith, Litmus, IsTest, IsWellFormed, IsWhole, StandsIn, KeepsAllOrder, Bus, Atomic, Choice, Entry, FitsTest}
 use Rattle.tso_cli.proofs.Vocabulary.{IsExecution, IsDecidedAsChoices, IsOrderFor, SpellsOrder, Table, table_of, ProtocolKind}
 use Rattle.tso_cli.proofs.Vocabulary.{Configuration, IsConfigurationWithinLimits, head, report, ShownRun, IsAnswerTo, IsInputAnswer}
 use Rattle.tso_cli.proofs.Vocabulary.{IsAnswer, too_large, answered, run_text, IsRunAnswer, ran, IsWithinLimits, parts_of, Plan}
@@ -206,7 +206,7 @@ pub record Runs : Type 0 where
   pub unbuffered : (table : Table) (c : Configuration) (t : Litmus) (choices : List Choice) → c.depth ≡ 0 → IsTest t → AnswersFitBy table c t choices
       → (run_by c.bus table c t choices).ended ≡ true → KeepsAllOrder (run_by c.bus table c t choices).commits
   pub atomic : (table : Table) (c : Configuration) (t : Litmus) (choices : List Choice) → c.bus ≡ Atomic → AnswersFitBy table c t choices
-  pub fits : (t : Litmus) (order : List Entry) (e : Entry) → IsTest t → IsWhole t order → StandsIn order e → FitsTest t e
+  pub fits : (t : Litmus) (order : List Entry) (e : Entry) → IsWellFormed t → IsWhole t order → StandsIn order e → FitsTest t e
   pub report_spells : (t : Litmus) (kind : ProtocolKind) (c : Configuration) (s : ShownRun)
       → IsTest t
       → c.depth < 2 ^ 64

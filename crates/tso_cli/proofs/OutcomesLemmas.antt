@@ -1,6 +1,6 @@
 -- What the answer of a search means.
 use Rattle.tso_cli.proofs.Vocabulary.{◌≡◌, ◌∙◌, ◌≤◌, ℕ, zero, suc, Bool, List, [], map, length, All, Contains, refl, ap, subst, arith}
-use Rattle.tso_cli.proofs.Vocabulary.{append-nil, All-weaker, All-contains, most_depth, Litmus, IsTest, IsTsoExecution, final_words}
+use Rattle.tso_cli.proofs.Vocabulary.{append-nil, All-weaker, All-contains, most_depth, Litmus, IsTest, well-formed, IsTsoExecution, final_words}
 use Rattle.tso_cli.proofs.Vocabulary.{final_registers, Entry, SpellsChoices, printed_choices, Named, names_shown, values_at, Outcome}
 use Rattle.tso_cli.proofs.Vocabulary.{shown_values, Search, AreAllOutcomes, IsOutcomesAnswer, found, HeadlineOfOutcomes, all, Status}
 use Rattle.tso_laws.specs.Outcomes.{IsEnd, IsSequentiallyConsistent, EndsAreWhatTsoAllows, ChoicesToAnEndAreCounted}
@@ -61,7 +61,7 @@ from-tso t laws test registers memory end =
 
 from-sequential : (t : Litmus) → EndsAreWhatTsoAllows → IsTest t → From t 0 (IsSequentiallyConsistent t)
 from-sequential t laws test registers memory end =
-    let allowed = (laws.unbuffered t registers memory test).0 end in
+    let allowed = (laws.unbuffered t registers memory (well-formed t test)).0 end in
     (allowed.order, allowed.consistent, allowed.registers_are, allowed.memory_is)
 
 among-tso : (t : Litmus) (names : List Named) (outcomes : List Outcome)
@@ -89,7 +89,7 @@ exactly-sequential : (t : Litmus) (names : List Named) (outcomes : List Outcome)
     → AreExactly t names outcomes (IsSequentiallyConsistent t)
 exactly-sequential t names outcomes laws test are =
     exactly t names 0 outcomes (IsSequentiallyConsistent t) are (from-sequential t laws test)
-    (λ order is. (laws.unbuffered t (final_registers t order) (final_words t order) test).1
+    (λ order is. (laws.unbuffered t (final_registers t order) (final_words t order) (well-formed t test)).1
     (record { order = order; consistent = is; registers_are = refl; memory_is = refl }))
 
 pub few-to-end : (t : Litmus) (depth : ℕ) (o : Outcome) → ChoicesToAnEndAreCounted → IsTest t → Leads t depth o → length o.choices ≤ 512

@@ -1,7 +1,7 @@
 -- The report of a run is short, and what `check` answers to it.
 use Rattle.tso_cli.proofs.Vocabulary.{Instructions, ◌≡◌, ◌+◌, ◌-◌, ◌*◌, ◌≤◌, ◌^◌, ℕ, suc, Bool, true, false, cond, List, [], ◌∷◌, ◌++◌}
 use Rattle.tso_cli.proofs.Vocabulary.{length, All, slice_index, slice_index_or, length-append, codes, refl, sym, ap, subst, ◌∙◌}
-use Rattle.tso_cli.proofs.Vocabulary.{arith, All-map, All-head, All-tail, All-weaker, SpellsOrder, Litmus, IsTest, IsProgram, AreRegisters}
+use Rattle.tso_cli.proofs.Vocabulary.{arith, All-map, All-head, All-tail, All-weaker, SpellsOrder, Litmus, IsTest, well-formed, IsProgram, AreRegisters}
 use Rattle.tso_cli.proofs.Vocabulary.{made_by, made_from, IsTsoExecution, read_values, registers_from, start, Run, has_ended, stall_count}
 use Rattle.tso_cli.proofs.Vocabulary.{Bus, Instr, Entry, Choice, IsExecution, SpellsTest, Table, table_of, ProtocolKind, Configuration}
 use Rattle.tso_cli.proofs.Vocabulary.{IsConfigurationWithinLimits, report, ShownRun, Parts, parts_of, joined_parts, valid_line, run_by}
@@ -116,7 +116,7 @@ small-run t kind c choices laws runs test few fit ended =
     let each = ap (λ (l : List (List ℕ)). length l) execution.registers ∙ registers_each 0 t.programs t.registers r.commits in
     record {
       entries = order_few t r.commits test execution.order;
-      order = order-for t r.commits test (λ e stands. laws.fits t r.commits e test execution.order.whole stands) words.values;
+      order = order-for t r.commits test (λ e stands. laws.fits t r.commits e (well-formed t test) execution.order.whole stands) words.values;
       cores = omega (arith, each);
       registers = All-map AreRegisters (λ core. core.registers) r.state.cores words.registers;
       memory = words.memory;

@@ -1,6 +1,6 @@
 -- What `witness` prints, and what `run` answers to it.
 use Rattle.tso_cli.proofs.Vocabulary.{◌≡◌, ◌*◌, ◌≤◌, ◌<◌, ℕ, Bool, true, List, [], ◌∷◌, ◌++◌, length, codes, length-append, refl, sym, ap}
-use Rattle.tso_cli.proofs.Vocabulary.{subst, ◌∙◌, arith, decimal, Litmus, IsTest, IsTsoExecution, chosen, run, CoresExist, Atomic, Entry}
+use Rattle.tso_cli.proofs.Vocabulary.{subst, ◌∙◌, arith, decimal, Litmus, IsTest, well-formed, IsTsoExecution, chosen, run, CoresExist, Atomic, Entry}
 use Rattle.tso_cli.proofs.Vocabulary.{Choice, choices_along, LeadTo, needed, Instructions, SpellsTest, SpellsChoices, printed_choice}
 use Rattle.tso_cli.proofs.Vocabulary.{printed_after, printed_choices, SpellsOrder, table_of, ProtocolKind, Configuration}
 use Rattle.tso_cli.proofs.Vocabulary.{IsConfigurationWithinLimits, Parts, parts_of, joined_parts, run_under, counts_under, report_in}
@@ -133,7 +133,7 @@ replayed kind c set json input out answer status texts reaching atomic within se
     let f = found set c.depth input out Good refl is in
     let test = texts.test set (parts_of input).test f.t f.test_spelled in
     let choices : List Choice = choices_along f.t f.order in
-    let lead = reaching.lead f.t c.depth f.order test f.execution f.enough in
+    let lead = reaching.lead f.t c.depth f.order (well-formed f.t test) f.execution f.enough in
     let spells : SpellsChoices (length f.t.programs) out choices =
     subst (λ text. SpellsChoices (length f.t.programs) text choices) (sym f.is) (line-spells f.t c.depth choices f.order reaching test lead) in
     let short : length out ≤ 4000 = subst (λ (text : List ℕ). length text ≤ 4000) (sym f.is) (line-short f.t c.depth choices f.order reaching test lead) in

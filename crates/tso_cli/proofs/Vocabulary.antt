@@ -9,6 +9,8 @@ pub use Rattle.std.specs.Option.{option_map, ForSome, unwrap_or}
 pub use Rattle.std.specs.Map.{keys_of, lookup}
 pub use Rattle.tso_terms.specs.FlatMachine.{registers_in, program_of, start, chosen}
 pub use Rattle.tso_terms.specs.Litmus.{Litmus, IsTest, IsProgram, IsCondition}
+pub use Rattle.tso_laws.specs.WellFormed.{IsWellFormed}
+pub use Rattle.tso_laws.proofs.WellFormed.{well-formed}
 pub use Rattle.tso_terms.specs.Axioms.{IsTsoExecution, IsWhole}
 pub use Rattle.tso_terms.specs.SequentialConsistency.{KeepsAllOrder}
 pub use Rattle.tso_terms.specs.Condition.{Condition, truth_of, Claim, NamesExist, claim_of, condition_of}

@@ -1,7 +1,8 @@
 -- What `witness` answers, and what that means.
 use Rattle.tso_cli.proofs.Vocabulary.{◌≡◌, ◌≢◌, ◌+◌, ◌*◌, ◌≤◌, ◌<◌, ◌^◌, ℕ, zero, suc, true, false, IsTrue, List, [], ◌∷◌, ◌++◌, length}
 use Rattle.tso_cli.proofs.Vocabulary.{All, refl, sym, ap, subst, ◌∙◌, arith, list_all, All-head, All-tail, All-weaker, most_depth, Litmus}
-use Rattle.tso_cli.proofs.Vocabulary.{IsTest, IsProgram, IsTsoExecution, run, CoresExist, Instr, StoreImm, Entry, Choice, choices_along}
+use Rattle.tso_cli.proofs.Vocabulary.{IsTest, IsWellFormed, well-formed, IsProgram, IsTsoExecution, run, CoresExist, Instr, StoreImm, Entry}
+use Rattle.tso_cli.proofs.Vocabulary.{Choice, choices_along}
 use Rattle.tso_cli.proofs.Vocabulary.{LeadTo, needed, End, SpellsChoices, printed_choices, WitnessesOrder, WitnessesEachOrder, unreached}
 use Rattle.tso_cli.proofs.Vocabulary.{broken, IsDepth, IsEndingOf, drains, witness_line, IsWitness, IsWitnessAnswer, too_small, invalid}
 use Rattle.tso_cli.proofs.Vocabulary.{judged, Ending, Ended, Unfinished, Status, Good, AreReadOneWay}
@@ -15,12 +16,12 @@ use Rattle.tso_cli.proofs.CheckLemmas.{IsReal}
 -- what the crates below say of choices that reach an order
 pub record Reaching : Type 0 where
   pub lead : (t : Litmus) (depth : ℕ) (order : List Entry)
-      → IsTest t
+      → IsWellFormed t
       → IsTsoExecution t order
       → needed order ≤ depth
       → LeadTo t depth (choices_along t order) order
   pub never : (t : Litmus) (depth : ℕ) (order : List Entry) (choices : List Choice)
-      → IsTest t
+      → IsWellFormed t
       → 0 < depth
       → depth < needed order
       → (run t depth choices).commits ≢ order
@@ -88,10 +89,10 @@ line-spells t depth choices order laws test lead =
 order-means : (t : Litmus) (depth : ℕ) (order : List Entry) (out : List ℕ) (status : Status) → Reaching → IsTest t → IsDepth depth
     → IsWitness t depth order out status → WitnessesOrder t depth order out
 order-means t depth order _ _ laws test within (reached is enough) =
-    let lead = laws.lead t depth order test is enough in
+    let lead = laws.lead t depth order (well-formed t test) is enough in
     reached (choices_along t order) is (line-spells t depth (choices_along t order) order laws test lead) lead
 order-means t depth order _ _ laws test within (too_small is less) =
-    unreached is (λ choices. laws.never t depth order choices test (let least = within.0 in omega arith) less) refl
+    unreached is (λ choices. laws.never t depth order choices (well-formed t test) (let least = within.0 in omega arith) less) refl
 order-means t depth order _ _ laws test within (invalid b first) = broken b first refl
 
 pub witness-means : (t : Litmus) (depth : ℕ) (text out : List ℕ) (status : Status) → AreReadOneWay → Reaching → IsTest t → IsDepth depth → length text < 2 ^ 64

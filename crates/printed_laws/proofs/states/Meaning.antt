@@ -1,7 +1,7 @@
 -- What the word of a condition means: for each end of the machine's runs, and for each execution.
 use Rattle.printed_laws.proofs.Vocabulary.{Instructions, ◌≡◌, ℕ, ◌<◌, Bool, true, false, List, [], ◌∷◌, All, get_or, refl, sym, ap, subst}
 use Rattle.printed_laws.proofs.Vocabulary.{◌∙◌, zero, suc, arith, ◌+◌, length, Some, ◌==◌, cond, map, not, Contains, eqb-true, list_all}
-use Rattle.printed_laws.proofs.Vocabulary.{codes, count_by, Litmus, IsTest, All-contains, Condition, Claim, truth_of, sum_by-cons, Named}
+use Rattle.printed_laws.proofs.Vocabulary.{codes, count_by, Litmus, IsTest, well-formed, All-contains, Condition, Claim, truth_of, sum_by-cons, Named}
 use Rattle.printed_laws.proofs.Vocabulary.{frequency, run, names_shown, values_at, Outcome, shown_values, held_in, failed_in, PrintsWord}
 use Rattle.printed_laws.proofs.Vocabulary.{IsSoEverywhere, IsSoSomewhere, IsSoNowhere, IsAlwaysSo, IsSometimesSo, WordMeans, final_words}
 use Rattle.printed_laws.proofs.Vocabulary.{final_registers, registers_in, IsEnd, EndsAreWhatTsoAllows, SpellsTest, TruthIsShown, parts_of}
@@ -105,7 +105,7 @@ module _ (t : Litmus) (condition : Condition) (s : Search) (json : Bool) (out : 
         (record { choices = choices; cores = cores; ended = ended; registers_are = refl; memory_is = refl }));
     buffered = λ some order execution enough.
         there truth each (final_registers t order) (final_words t order) (p.all.complete (final_registers t order) (final_words t order)
-        ((laws.by_depth t s.depth (final_registers t order) (final_words t order) test some).1
+        ((laws.by_depth t s.depth (final_registers t order) (final_words t order) (well-formed t test) some).1
         (record { order = order; execution = execution; depth_needed = enough; registers_are = refl; memory_is = refl })));
     tso = λ greatest order execution.
         there truth each (final_registers t order) (final_words t order) ((p.tso greatest (shown_after t names order)).1 (order, execution, refl));
@@ -151,7 +151,7 @@ module _ (t : Litmus) (condition : Condition) (s : Search) (outcomes : List Outc
               ∙ ap (λ memory. truth_of o.registers memory condition.claim) lead.memory_is ∙ so,
         );
         buffered = λ some.
-            let allowed = (laws.by_depth t s.depth o.registers o.memory test some).0 end in (
+            let allowed = (laws.by_depth t s.depth o.registers o.memory (well-formed t test) some).0 end in (
               allowed.order,
               allowed.execution,
               allowed.depth_needed,

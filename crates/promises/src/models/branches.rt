@@ -3,11 +3,11 @@
 
 ghost use Rattle.std.specs.Prelude.{◌↔◌, ◌∷◌, ◌≡◌, ◌<◌, ◌≤◌, List, [], codes, length, slice_index, slice_index_or, ℕ};
 ghost use Rattle.tso_terms.specs.Axioms.{IsTsoExecution};
-ghost use Rattle.tso_terms.specs.Litmus.{IsTest};
 ghost use Rattle.tso_terms.specs.Runs.{CoresExist};
 ghost use Rattle.basic_laws.specs.Types.{Entry, Loc};
 ghost use Rattle.tso_laws.specs.Depth.{needed};
 ghost use Rattle.tso_laws.specs.Outcomes.{IsAllowedByTso};
+ghost use Rattle.tso_laws.specs.WellFormed.{IsWellFormed};
 ghost use Rattle.branch_laws.specs.Trees.{Tree, Locks, Adds, path};
 ghost use Rattle.branch_laws.specs.Branching.{Branching, Give, values_from, straight, IsBranchExecution, IsPathExecution};
 ghost use Rattle.branch_laws.specs.Branching.{IsBranchOutcome, IsPathOutcome};
@@ -41,7 +41,7 @@ pub fn a_program_with_branches_ends_as_one_of_its_paths()
 
 /// The runs of the machine over trees reach the executions that need no more depth, and no others.
 pub fn runs_over_trees_reach_the_executions()
-    ensures { (b : Branching) (depth : ℕ) (order : List Entry) (outputs : List (List ℕ)) → IsTest (straight b (values_from 0 b.trees order))
+    ensures { (b : Branching) (depth : ℕ) (order : List Entry) (outputs : List (List ℕ)) → IsWellFormed (straight b (values_from 0 b.trees order))
         → 0 < depth → IsTreeReached b depth order outputs ↔ (IsBranchExecution b order outputs × (needed order ≤ depth)) }
 {
     tree_runs_reach_exactly_the_executions();

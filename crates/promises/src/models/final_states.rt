@@ -4,9 +4,10 @@ ghost use Rattle.std.specs.Prelude.{◌<◌, ◌↔◌, ◌≡◌, Bool, List, S
 ghost use Rattle.explorer.specs.FinalStates.{AreWhatSequentialConsistencyAllows, AreWhatTsoAllows, HasMoreStates, Have, IsReachable};
 ghost use Rattle.explorer.specs.declared.final_states.FinalState.{FinalState};
 ghost use Rattle.tso_laws.specs.Outcomes.{IsAllowedAtDepth, IsAllowedByTso, IsAllowedSequentially, IsEnd};
+ghost use Rattle.tso_laws.specs.WellFormed.{IsWellFormed};
 ghost use Rattle.tso_laws.specs.Choices.{state_after};
 ghost use Rattle.tso_terms.specs.FlatMachine.{State, start};
-ghost use Rattle.tso_terms.specs.Litmus.{IsTest, Litmus};
+ghost use Rattle.tso_terms.specs.Litmus.{Litmus};
 ghost use Rattle.tso_terms.specs.Runs.{CoresExist};
 
 use tso_laws::ends_are_what_tso_allows;
@@ -27,7 +28,7 @@ pub fn what_was_found_is_allowed()
 
 /// At a depth of 1 or more runs end with what TSO allows at it.
 pub fn ends_are_what_is_allowed_at_each_depth()
-    ensures by_depth { (t : Litmus) (depth : ℕ) (registers : List (List ℕ)) (memory : List ℕ) → IsTest t → 0 < depth
+    ensures by_depth { (t : Litmus) (depth : ℕ) (registers : List (List ℕ)) (memory : List ℕ) → IsWellFormed t → 0 < depth
         → IsEnd t depth registers memory ↔ IsAllowedAtDepth t depth registers memory }
 {
     ends_are_what_tso_allows();

@@ -10,6 +10,7 @@ ghost use Rattle.tso_laws.specs.Outcomes.{IsAllowedByTso, IsAllowedSequentially}
 ghost use Rattle.tso_terms.specs.FlatMachine.{State};
 ghost use Rattle.tso_terms.specs.Runs.{run};
 ghost use Rattle.tso_laws.specs.Closed.{AreClosed, IsAlikeOneOf};
+ghost use Rattle.tso_laws.specs.WellFormed.{IsWellFormed};
 ghost use Rattle.tso_laws.specs.Dead as dead;
 ghost use Rattle.tso_laws.specs.Exchanged.{AreAllAlike};
 ghost use Rattle.explorer.specs.Settled.{LeadsToForgotten, LeadsBy};
@@ -85,7 +86,7 @@ pub fn what_is_kept_is_reached_but_for_dead_registers()
 /// Of states that are closed under choices one is what a run that ends leaves, but for dead registers and swapped identical cores.
 pub fn closed_states_have_each_end()
     ensures { (depth : ℕ) (t : Litmus) (hidden : List (List Bool)) (pairs : List (ℕ × ℕ)) (states : List State) (choices : List Choice)
-        → IsTest t → AreAllAlike t hidden pairs → AreClosed depth t hidden pairs states → (run t depth choices).ended ≡ true
+        → IsWellFormed t → AreAllAlike t hidden pairs → AreClosed depth t hidden pairs states → (run t depth choices).ended ≡ true
         → IsAlikeOneOf t hidden pairs states (run t depth choices).state }
 {
     closed_states_miss_none();

@@ -1,5 +1,6 @@
 use Rattle.found_reasons.proofs.Vocabulary.{◌≡◌, ◌∙◌, ap, refl, subst, sym, choices_along, LeadTo, is_step}
 use Rattle.std.proofs.Common.{filter, rules}
+use Rattle.tso_laws.proofs.WellFormed.{well-formed}
 use Rattle.found_reasons.proofs.Filtering.{picked, passed, no-step}
 use Rattle.execution_check.proofs.Growing.{all-made}
 use Rattle.found_reasons.proofs.Unstored.{steps-lead}
@@ -25,4 +26,4 @@ returns c =
     made ∙ ap (λ z. filter is_step z) (c.deref-choice-items.ensures.value ∙ c.in_ok-choices.ensures.along) in
     subst (λ z. LeadTo t 0 z order) (sym is)
     (steps-lead c.stalls_change_nothing.ensures c.runs_stop_where_they_end.ensures t order
-    ((c.unbuffered_runs_reach_exactly_the_sequentially_consistent.ensures t order c.know_limits.ensures).1 c.requires))
+    ((c.unbuffered_runs_reach_exactly_the_sequentially_consistent.ensures t order (well-formed t c.know_limits.ensures)).1 c.requires))

@@ -1,4 +1,4 @@
-use Rattle.scheduler.proofs.Vocabulary.{◌≡◌, ◌≤◌, arith, needed}
+use Rattle.scheduler.proofs.Vocabulary.{◌≡◌, ◌≤◌, arith, needed, well-formed}
 use Rattle.scheduler.proofs.Fitting.{core-at, place-at}
 use Rattle.scheduler.proofs.reaching.witness.Goals as goal
 
@@ -25,4 +25,5 @@ returns-clause-reaches c =
     let n : c.in_ok-needed.needed ≡ needed c.deref.result.now = c.in_ok-needed.ensures in
     let within : needed c.args.execution.now.order.items ≤ c.args.depth = rw (← c.deref.ensures.value) (omega (arith, n)) in
     rw (c.in_ok-choices_along.ensures, c.deref-2.ensures.value)
-    (c.every_execution_is_reached.ensures c.args.test.now c.args.depth c.args.execution.now.order.items c.cores.ensures.test c.requires.execution within)
+    (c.every_execution_is_reached.ensures c.args.test.now c.args.depth c.args.execution.now.order.items
+    (well-formed c.args.test.now c.cores.ensures.test) c.requires.execution within)

@@ -1,4 +1,5 @@
-use Rattle.tso_cli.proofs.Vocabulary.{◌≡◌, ◌≢◌, string_bytes, subst, sym, IsCheckAnswer, valid, valid_line, invalid_line, order_refusal, Good, Invalid, Refused}
+use Rattle.tso_cli.proofs.Vocabulary.{◌≡◌, ◌≢◌, well-formed, string_bytes, subst, sym, IsCheckAnswer, valid, valid_line, invalid_line}
+use Rattle.tso_cli.proofs.Vocabulary.{order_refusal, Good, Invalid, Refused}
 use Rattle.order_breaches.specs.declared.breach.Breach.TheVariants as breaches
 use Rattle.order_builder.specs.declared.fault.OrderFault.TheVariants as faults
 use Rattle.tso_cli.proofs.AnswerLemmas.{refusal-is}
@@ -10,7 +11,7 @@ pub invalid-requires : goal.invalid-requires
 invalid-requires c =
     let t = c.args.test.now in
     let order = c.in-Ok.execution.order.items in
-    named t order c.in-Err-check_order.breach (λ e. c.made_entries_fit_the_test.ensures t order e c.know_limits.ensures)
+    named t order c.in-Err-check_order.breach (λ e. c.made_entries_fit_the_test.ensures t order e (well-formed t c.know_limits.ensures))
     (c.order_can_be_printed.ensures t order c.in-Ok.ensures.found.entries) c.in-Err-check_order.ensures.first
 
 pub returns-in-Ok-check_order : goal.returns-in-Ok-check_order

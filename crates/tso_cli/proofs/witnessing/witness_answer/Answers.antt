@@ -1,4 +1,4 @@
-use Rattle.tso_cli.proofs.Vocabulary.{◌≢◌, order_refusal, invalid_line, IsWitness, IsWitnessAnswer, Refused, Invalid, invalid, judged}
+use Rattle.tso_cli.proofs.Vocabulary.{◌≢◌, well-formed, order_refusal, invalid_line, IsWitness, IsWitnessAnswer, Refused, Invalid, invalid, judged}
 use Rattle.order_breaches.specs.declared.breach.Breach.TheVariants as breaches
 use Rattle.order_builder.specs.declared.fault.OrderFault.TheVariants as faults
 use Rattle.tso_cli.specs.Witness.{refused}
@@ -10,7 +10,7 @@ pub invalid-requires : goal.invalid-requires
 invalid-requires c =
     let t = c.args.test.now in
     let order = c.in-Ok.execution.order.items in
-    named t order c.in-Err-check_order.breach (λ e. c.made_entries_fit_the_test.ensures t order e c.know_limits.ensures)
+    named t order c.in-Err-check_order.breach (λ e. c.made_entries_fit_the_test.ensures t order e (well-formed t c.know_limits.ensures))
     (c.order_can_be_printed.ensures t order c.in-Ok.ensures.found.entries) c.in-Err-check_order.ensures.first
 
 pub returns-in-Ok-check_order : goal.returns-in-Ok-check_order
