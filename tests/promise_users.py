@@ -3,7 +3,8 @@
 
     tests/promise_users.py                   each field and clause that nothing takes up; the last line is 'N passed, M failed'
     tests/promise_users.py --list            each of them with what takes it up
-    tests/promise_users.py --renew TREE..    writes tests/data/silent_users.list anew, from what checks left in these trees
+    tests/promise_users.py --renew TREE..    writes tests/data/silent_users.list anew, from what checks left in these trees, and shows what that
+                                             changes: read it
 
 What is looked at are the fields of the records that a promise of the pages reaches (PAGES of tests/believed.py), and the clauses of the
 public functions that these pages name, with a name or without. Such a thing is taken up
@@ -13,6 +14,7 @@ public functions that these pages name, with a name or without. Such a thing is 
 - by a function of `promises` that makes the call, and says the clause again;
 - by a proof that a tactic found, which says nothing in the text. Then tests/data/silent_users.list names the function whose proof it
   is: it has to stand, and to call what the clause is of. What a check leaves of its modules names it (tests/checks/proofs/checked_modules.py).
+  What the last release's list had and this one lacks has a user that its text shows, or a line '# gone: NAME: WHY' of the list says why.
 
 Not asked for are a field that a later field of its record speaks of (that one is asked for), and the clauses of worked examples and of
 `promises`, which are users themselves.
@@ -25,10 +27,11 @@ from functools import lru_cache
 sys.dont_write_bytecode = True
 from checks.judging import TOP
 from checks.proofs import checked_modules, code_texts, proof_texts, statements
+from checks.proofs.renewed_lists import RenewedList
 
 import believed
 
-SILENT = os.path.join(TOP, "tests", "data", "silent_users.list")
+SILENT = RenewedList("silent_users.list", " = ")
 # Users are themselves the worked examples, and the functions of `promises`, with the definitions that they alone use.
 USERS_THEMSELVES = re.compile(r"worked_examples/|promises/")
 
@@ -156,13 +159,7 @@ def user_in_promises(clause):
 @lru_cache(None)
 def silent():
     """What the list says: by a thing's name, its user."""
-    found = {}
-    with open(SILENT, encoding="utf-8") as file:
-        for line in file:
-            if line.strip() and not line.startswith("#"):
-                thing, _, user = line.strip().partition(" = ")
-                found[thing] = user
-    return found
+    return SILENT.said()
 
 
 def stands(user, thing):
@@ -269,10 +266,7 @@ def renew(trees):
     rest = [name for name in wanted if name not in found]
     said = {name: silent()[name] for name in rest if name in silent() and stands(silent()[name], wanted[name])}
     found.update({name: said.get(name) or perhaps[name] for name in rest if name in said or name in perhaps})
-    with open(SILENT, encoding="utf-8") as file:
-        head = [line for line in file if line.startswith("#")]
-    with open(SILENT, "w", encoding="utf-8") as file:
-        file.write("".join(head) + "".join("%s = %s\n" % pair for pair in sorted(found.items())))
+    SILENT.renew(sorted(found.items()))
     for name in rest:
         print("no module says so for certain: %s = %s" % (name, found.get(name, "nothing")))
     print("%d have a user that says nothing in its text, %d have none" % (len(found), len(wanted) - len(found)))
@@ -289,13 +283,17 @@ def main():
         return None
     unused = [thing.name for thing in things if not users[thing.name]]
     gone = sorted(set(silent()) - set(users))
+    lost = SILENT.lost({thing.name for thing in things if user_in_text(thing)})
     for name in unused:
         print("FAILED nothing takes up %s" % name)
     for name in gone:
         print("FAILED tests/data/silent_users.list names %s, which is gone" % name)
+    for fault in lost:
+        print("FAILED " + fault)
     print("%d fields, %d clauses; what takes up %d of them says nothing in its text" % (len(fields()), len(clauses()), len(silent())))
-    print("%d passed, %d failed" % (len(things) - len(unused), len(unused) + len(gone)))
-    sys.exit(1 if unused or gone else 0)
+    failed = len(unused) + len(gone) + len(lost)
+    print("%d passed, %d failed" % (len(things) - len(unused), failed))
+    sys.exit(1 if failed else 0)
 
 
 if __name__ == "__main__":

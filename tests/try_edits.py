@@ -1,17 +1,21 @@
 #!/usr/bin/env python3
-"""Tries the edits of tests/data/edits/, which the prover must refuse and which the gate leaves out.
+"""Tries the edits of tests/data/edits/, which the prover must refuse.
 
-    tests/try_edits.py [CRATE..]
-    tests/try_edits.py --applies     proves nothing: whether each edit, those of must-fail/ too, still finds its text
+    tests/try_edits.py [CRATE..]                 those of these crates; without a name all, for a release
+    tests/try_edits.py --oldest MOST SECONDS     so many at most, in so many processor seconds: those that were refused longest ago
+    tests/try_edits.py --applies                 proves nothing: whether each edit, those of must-fail/ too, still finds its text
 
-Run it for a crate whose code or contracts change. An edit has the form of those in crates/NAME/must-fail/: a line
-'file: src/lib.rt' and pairs of lines 'old: TEXT' and 'new: TEXT'. Where the file is one of a crate below, a line
-'crate: OTHER' stands before it: then what stands between the two is built anew over the edited file, and NAME is
-checked. Everything happens in a scratch copy, by 'rt check'.
+Run it for a crate whose code or contracts change; the gate tries a few that were refused longest ago. An edit has the form of those in
+crates/NAME/must-fail/: a line 'file: src/lib.rt' and pairs of lines 'old: TEXT' and 'new: TEXT'. Where the file is one of a crate below, a
+line 'crate: OTHER' stands before it: then what stands between the two is built anew over the edited file, and NAME is checked. Everything
+happens in a scratch copy, by 'rt check'.
 
 A function is judged by its own body and the contracts of what it calls. So edits of the bodies of functions of different
 names are tried by one check, and each is refused where a function that it changes isn't proved. Any other edit has a
 check of its own, and so has each that its group's check doesn't refuse. The last line is 'N passed, M failed'.
+
+tests/data/refused_edits.list says of each edit when it was refused last, and by what. What is refused now is written there: commit it, that
+the next gate tries others.
 """
 import collections
 import glob
@@ -25,6 +29,7 @@ import tempfile
 sys.dont_write_bytecode = True
 from checks import judging
 from checks.judging import TOP
+from checks.proofs import refused_edits
 
 CRATES = os.path.join(TOP, "crates")
 EDITS = os.path.join(TOP, "tests", "data", "edits")
@@ -172,8 +177,9 @@ def said_of(bodies, unproved):
 
 
 def try_group(room, crate, group):
-    """Tries the edits of a group, and once more alone each that this check doesn't refuse. Answers how many are refused."""
-    unproved, refused, is_alone = check(room, crate, group), 0, len(group) == 1
+    """Tries the edits of a group, and once more alone each that this check doesn't refuse. Yields the name of each and what refused it, or
+    None."""
+    unproved, is_alone = check(room, crate, group), len(group) == 1
     for edit in group:
         if isinstance(unproved, str):
             by, said = None, "NOT JUDGED: " + unproved
@@ -181,17 +187,39 @@ def try_group(room, crate, group):
             by = said_of(None if is_alone else bodies_of(room, edit), unproved)
             said = "refused, as it must be: " + by if by else "NOT REFUSED"
         if by or is_alone:
-            refused += by is not None
             print("%s/%s: %s" % (crate, edit.name, said), flush=True)
+            yield "%s/%s" % (crate, edit.name), by
         else:
-            refused += try_group(room, crate, [edit])
-    return refused
+            yield from try_group(room, crate, [edit])
+
+
+def tried(room, named, within):
+    """Tries these edits, each given as CRATE/FILE, group by group, while what they are expected to cost leaves room within so many
+    processor seconds. Yields of each that was tried its name and what refused it, or None."""
+    began = refused_edits.processor_seconds()
+    for crate in sorted({name.partition("/")[0] for name in named}):
+        edits = [read_edit(os.path.join(EDITS, name), crate) for name in named if name.startswith(crate + "/")]
+        for group in in_groups(room, edits):
+            spent, names = refused_edits.processor_seconds() - began, ["%s/%s" % (crate, edit.name) for edit in group]
+            if spent + refused_edits.expected_seconds(names) > within:
+                print("left for the next gate, as %d s are spent: %s" % (spent, ", ".join(names)), flush=True)
+                continue
+            before = refused_edits.processor_seconds()
+            judged = list(try_group(room, crate, group))
+            refused_edits.note(judged, refused_edits.processor_seconds() - before)
+            yield from judged
+
+
+def named_edits(crates):
+    """The edits of these crates, of all where none is named, each as CRATE/FILE."""
+    return [os.path.relpath(path, EDITS) for crate in crates or sorted(os.listdir(EDITS))
+            for path in sorted(glob.glob(os.path.join(EDITS, crate, "*.edit")))]
 
 
 def all_edits():
     """Each edit of tests/data/edits/ and of crates/NAME/must-fail/, with the crate that it is for."""
-    for path in sorted(glob.glob(os.path.join(EDITS, "*", "*.edit"))):
-        yield read_edit(path, os.path.basename(os.path.dirname(path)))
+    for name in named_edits([]):
+        yield read_edit(os.path.join(EDITS, name), os.path.dirname(name))
     for path in sorted(glob.glob(os.path.join(CRATES, "*", "must-fail", "*.edit"))):
         yield read_edit(path, os.path.relpath(path, CRATES).split(os.sep)[0])
 
@@ -217,20 +245,25 @@ def try_to_apply():
     return 1 if unfit else 0
 
 
-def main(named):
+def main(words):
     judging.tell(__doc__)
-    if named == ["--applies"]:
+    if words == ["--applies"]:
         return try_to_apply()
-    passed = failed = 0
+    within = float("inf")
+    if words[:1] == ["--oldest"]:
+        most, within = (int(word) for word in words[1:])
+        named = refused_edits.longest_ago(named_edits([]), most, within)
+    else:
+        named = named_edits(words)
     with tempfile.TemporaryDirectory(prefix="tso-edits-") as room:
         scratch_copy(room)
-        for crate in named or sorted(os.listdir(EDITS)):
-            edits = [read_edit(path, crate) for path in sorted(glob.glob(os.path.join(EDITS, crate, "*.edit")))]
-            refused = sum(try_group(room, crate, group) for group in in_groups(room, edits))
-            passed += refused
-            failed += len(edits) - refused
-    print("%d passed, %d failed" % (passed, failed))
-    return 1 if failed else 0
+        judged = list(tried(room, named, within))
+    refused_edits.keep(named_edits([]))
+    failed = sum(by is None for _, by in judged)
+    print("%d tried, %d left; %d were never refused by a run that wrote the list"
+          % (len(judged), len(named) - len(judged), len(refused_edits.never(named_edits([])))))
+    print("%d passed, %d failed" % (len(judged) - failed, failed or not judged))
+    return 1 if failed or not judged else 0
 
 
 if __name__ == "__main__":

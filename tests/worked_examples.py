@@ -2,27 +2,27 @@
 """Holds each worked example by a second voice: what it says is said once more, and computed once more in plain Python.
 
     tests/worked_examples.py             the last line is 'N passed, M failed'
-    tests/worked_examples.py --renew     writes tests/data/worked.list anew, from the examples as they stand
+    tests/worked_examples.py --renew     writes tests/data/worked.list anew, from the examples as they stand, and shows what that changes: read it
 
 A worked example is a clause of a public function whose name begins with `worked_` or `numbers_of_`, or that shows what a law's premises are
 for. Nothing rests on it: emptied, or with another numeral, it would be proved all the same. So tests/data/worked.list says each once more, with
 its texts, tests, orders and choices written out: what a call is given, and what it comes to. An example that says otherwise than the list,
-or that the list or the crates lack, is a fault.
+or that the list or the crates lack, is a fault. So is one that the last release's list had, if it is gone and no line '# gone: NAME: WHY' of the
+list says why.
 
 Then each is computed. What the second program (tests/reference) knows is asked of it: which test a text spells and what it is told, runs, orders,
 candidates. All else follows the definitions' own equations (tests/checks/proofs/computed_terms.py). An example that comes to something else is a
 fault. Of what can't be computed, as what a quantifier says, the words alone are held; how many these are is printed.
 """
-import os
 import re
 import sys
 import threading
 
 sys.dont_write_bytecode = True
-from checks.judging import TOP
 from checks.proofs import code_texts, computed_terms, definitions, proof_texts, reference_values
+from checks.proofs.renewed_lists import RenewedList
 
-LIST = os.path.join(TOP, "tests", "data", "worked.list")
+LIST = RenewedList("worked.list", ": ")
 WORKED = re.compile(r"worked_|numbers_of_|premises_are_met|split_premises_are_met|(?:split_)?laws_need_their_premises")
 # What says that a value isn't computed: no line says how, or a part is asked for that the second program doesn't tell.
 NOT_COMPUTED = (computed_terms.Unknown, KeyError, IndexError, TypeError)
@@ -109,23 +109,6 @@ def imports_of(text):
     return found
 
 
-def listed():
-    found = {}
-    with open(LIST, encoding="utf-8") as file:
-        for line in file:
-            if line.strip() and not line.startswith("#"):
-                name, _, says = line.rstrip("\n").partition(": ")
-                found[name] = says
-    return found
-
-
-def renew(found):
-    with open(LIST, encoding="utf-8") as file:
-        head = [line for line in file if line.startswith("#")]
-    with open(LIST, "w", encoding="utf-8") as file:
-        file.write("".join(head) + "".join("%s: %s\n" % (one.name, one.said()) for one in found))
-
-
 def faults_of(example, true, known):
     if example.name not in known:
         return ["tests/data/worked.list doesn't have it"]
@@ -138,20 +121,23 @@ def faults_of(example, true, known):
 def main():
     found = examples()
     if sys.argv[1:] == ["--renew"]:
-        return renew(found)
-    known = listed()
+        return LIST.renew((one.name, one.said()) for one in found)
+    known = LIST.said()
     truths = [example.comes_true() for example in found]
     faults = {example.name: faults_of(example, true, known) for example, true in zip(found, truths)}
     faults.update({name: ["it is gone"] for name in known if name not in faults})
+    lost = LIST.lost()
     for name, told in faults.items():
         for fault in told:
             print("FAILED %s: %s" % (name, fault))
+    for fault in lost:
+        print("FAILED " + fault)
     heard, unknown = sum(bool(example.heard) for example in found), truths.count(None)
     print("%d examples: of %d the second program says a part, %d follow the definitions alone, of %d the words are held"
           % (len(found), heard, len(found) - heard - unknown, unknown))
     failed = sum(bool(told) for told in faults.values())
-    print("%d passed, %d failed" % (len(faults) - failed, failed))
-    return failed
+    print("%d passed, %d failed" % (len(faults) - failed, failed + len(lost)))
+    return failed + len(lost)
 
 
 if __name__ == "__main__":

@@ -9,7 +9,7 @@ use Rattle.std.proofs.lemmas.Bool.{or_parts}
 use Rattle.serde_json.specs.Data.{Data, string, Members, no_members, member, put}
 use Rattle.serde_json.specs.View.{items_of}
 use Rattle.serde_json.specs.Written.{has_float, items_have_float, members_have_float}
-use Rattle.formats.specs.Formats.{Manner, Member, Tagged, Entry, Object, Chain, NoStep, This, That, Format, Nothing, Number, Word}
+use Rattle.formats.specs.Formats.{Manner, Member, Tagged, Entry, Object, Chain, NoItem, This, That, Format, Nothing, Number, Word}
 use Rattle.formats.specs.Formats.{Printable, Times, Lead, Trail, Both, Either, Many, Separated, Spelled, As, Value}
 use Rattle.formats.specs.JsonData.{Json, adding, plain, all_add, listed, text_in, chain_steps, in_manner, json, data_of}
 
@@ -73,7 +73,7 @@ manner-none (Tagged key word) j none =
 manner-none Entry j none = adding-none j (put (text_in j.first) j.second) none (λ ms h. one_more (text_in j.first) j.second ms none.second h)
 manner-none Object j none = by-itself _ (none.adds no_members refl)
 manner-none (Chain from by to) j none = by-itself _ (steps-none from by to j.first j.pairs none.first none.pairs)
-manner-none NoStep j none = by-itself _ refl
+manner-none NoItem j none = by-itself _ refl
 
 each-none : {X : Type 0} (f : X → Json) → ((x : X) → NoFloat (f x)) → (xs : List X) → AllByRecursion NoFloat (map f xs)
 each-none f none [] = tt

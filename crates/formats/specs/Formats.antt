@@ -31,9 +31,9 @@ pub data Manner : Type 0 where
   -- as a member there, whose key is the text of its first part; as an object of all such members
   Entry : Manner
   Object : Manner
-  -- as steps from one thing to the next: each has what it comes from, the step, and what it leads to; as no step
+  -- as steps from one thing to the next: each has what it comes from, the step, and what it leads to; as a list of nothing
   Chain : (from by to : List ℕ) → Manner
-  NoStep : Manner
+  NoItem : Manner
 
 pub data Format : Type 0 where
   -- nothing

@@ -2,7 +2,7 @@
 use Rattle.std.specs.Prelude.{ℕ, List, [], ◌∷◌, map}
 use Rattle.serde_json.specs.Data.{Data, null, number, unsigned, string, array, object, Members, no_members, put}
 use Rattle.serde_json.specs.View.{items_of}
-use Rattle.formats.specs.Formats.{Manner, Member, Tagged, Entry, Object, Chain, NoStep, This, That, Format, Nothing, Number, Word}
+use Rattle.formats.specs.Formats.{Manner, Member, Tagged, Entry, Object, Chain, NoItem, This, That, Format, Nothing, Number, Word}
 use Rattle.formats.specs.Formats.{Printable, Times, Lead, Trail, Both, Either, Many, Separated, Spelled, As, Value}
 
 -- how a value is shown: by itself; what it adds to the members of the object around it; its two parts, and those of all that it lists
@@ -50,7 +50,7 @@ in_manner (Tagged key word) j = adding (λ members. put key (string word) (j.add
 in_manner Entry j = adding (put (text_in j.first) j.second) j
 in_manner Object j = plain (object (j.adds no_members))
 in_manner (Chain from by to) j = plain (array (items_of (chain_steps from by to j.first j.pairs)))
-in_manner NoStep j = plain (array (items_of []))
+in_manner NoItem j = plain (array (items_of []))
 
 abbrev pub json : (f : Format) → Value f → Json
 json Nothing x = plain null

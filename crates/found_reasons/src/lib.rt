@@ -3,6 +3,7 @@
 #![tactic(auto)]
 
 pub mod answers;
+pub mod case_numbers;
 pub mod choices;
 pub mod choosing;
 pub mod cycle;
@@ -15,6 +16,7 @@ pub mod sorting;
 pub mod steps;
 pub mod telling;
 
+pub use case_numbers::numbers_of_cases;
 pub use choices::choices_to;
 pub use reason::Reason;
 pub use search::explain;

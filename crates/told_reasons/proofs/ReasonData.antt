@@ -16,8 +16,10 @@ use Rattle.search_report.specs.Lines.{Line, Given, Never, Case, So, Leaf, Endcas
 use Rattle.search_report.specs.LineJson.{case_value, closed_value, closing_value, facts_value, line_value}
 use Rattle.formats.specs.Formats.{Format, Number, Spelled, Value}
 use Rattle.formats.specs.JsonData.{all_add, data_of, json, chain_steps}
-use Rattle.told_reasons.specs.ReasonFormats.{closed_format, closing_format, fact_format, facts_format, hop_format, line_format, place_format, question_format}
-use Rattle.told_reasons.specs.ShownLines.{AreSteps, ClosingIsChained, LineIsChained, shown_closed, shown_closing, shown_line, shown_question}
+use Rattle.told_reasons.specs.ReasonFormats.{closed_format, closing_format, fact_format, facts_format, hop_format, line_format, place_format}
+use Rattle.told_reasons.specs.ReasonFormats.{question_format, values_format}
+use Rattle.told_reasons.specs.ShownLines.{AreSteps, ClosingIsChained, LineIsChained, shown_closed, shown_closing, shown_line, shown_place}
+use Rattle.told_reasons.specs.ShownLines.{shown_question, values_told}
 
 each-data : {X : Type 0} (f : Format) (g : X → Value f) (d : X → Data) → ((x : X) → data_of f (g x) ≡ d x) → (xs : List X)
     → map (λ j. j.value) (map (json f) (map g xs)) ≡ map d xs
@@ -27,6 +29,10 @@ each-data f g d each (x ∷ xs) = λ i. each x i ∷ each-data f g d each xs i
 numbers-data : (ns : List ℕ) → map (λ j. j.value) (map (json Number) ns) ≡ map count ns
 numbers-data [] = refl
 numbers-data (n ∷ ns) = ap (λ (l : List Data). count n ∷ l) (numbers-data ns)
+
+values-data : (vs : List ℕ) → data_of values_format (values_told vs) ≡ array (items_of (map count vs))
+values-data [] = refl
+values-data (v ∷ vs) = ap (λ (l : List Data). array (items_of l)) (numbers-data (v ∷ vs))
 
 module _ (t : Litmus) where
   facts-data : (fs : List ShownFact) → data_of facts_format (map (fact_text t) fs) ≡ facts_value t fs
@@ -47,9 +53,9 @@ module _ (t : Litmus) where
       (member (codes "relation") (string (relation_text e.relation)) (member (codes "to") (string (event_text t e.target)) no_members)))
       ∷ more i
 
-  places-data : (places : List Place) → all_add (map (json place_format) (map (λ p. (key_of t p.named, p.values)) places)) no_members ≡ place_members t places
+  places-data : (places : List Place) → all_add (map (json place_format) (map (shown_place t) places)) no_members ≡ place_members t places
   places-data [] = refl
-  places-data (p ∷ ps) = λ i. put (key_of t p.named) (array (items_of (numbers-data p.values i))) (places-data ps i)
+  places-data (p ∷ ps) = λ i. put (key_of t p.named) (values-data p.values i) (places-data ps i)
 
   closing-data : (c : Closing) → ClosingIsChained t c → data_of closing_format (shown_closing t c) ≡ closing_value t c
   closing-data (Uniproc []) all = refl

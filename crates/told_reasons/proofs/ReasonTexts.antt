@@ -31,9 +31,9 @@ use Rattle.search_report.specs.LineText.{case_text, closed_text, line_text, ques
 use Rattle.formats.specs.Formats.{AnyWord, This, That, is_in, separated, IsSome, text, FitsFormat, Spells}
 use Rattle.told_reasons.specs.ReasonFormats.{access_format, answered_format, closed_format, closing_format, cycle_format, event_format}
 use Rattle.told_reasons.specs.ReasonFormats.{fact_format, facts_format, hop_format, key_format, kind_format, line_format, negated_format}
-use Rattle.told_reasons.specs.ReasonFormats.{place_format, question_format, subject_format}
+use Rattle.told_reasons.specs.ReasonFormats.{place_format, question_format, subject_format, values_format}
 use Rattle.told_reasons.proofs.ClaimTexts.{holds-spelled}
-use Rattle.told_reasons.specs.ShownLines.{shown_cycle, shown_closing, shown_closed, shown_question, shown_case, shown_line}
+use Rattle.told_reasons.specs.ShownLines.{shown_cycle, shown_closing, shown_closed, shown_question, shown_case, shown_line, shown_place, values_told}
 use Rattle.told_reasons.specs.ShownLines.{IsNumberOf64Bits, EventFits, FactFits, FactsFit, EdgeFits, IsKey, PlaceFits, SubjectFits}
 use Rattle.told_reasons.specs.ShownLines.{ClosingFits, QuestionFits, CaseFits, LineFits}
 
@@ -99,17 +99,17 @@ module _ (t : Litmus) where
       ap (λ (l : List ℕ). codes " " ++ (event_text t e.source ++ l))
       (each-text (text hop_format) (λ d. (relation_text d.relation, event_text t d.target)) (hop_text t) (λ d. refl) (e ∷ es))
 
-  words-text : (vs : List ℕ) → separated (codes "|") decimal vs ≡ words_text vs
-  words-text [] = refl
-  words-text (v ∷ vs) = refl
+  values-text : (vs : List ℕ) → text values_format (values_told vs) ≡ words_text vs
+  values-text [] = refl
+  values-text (v ∷ vs) = refl
 
   closing-told : (c : Closing) → text closing_format (shown_closing t c) ≡ closing_text t c
   closing-told (Uniproc es) = ap (λ (l : List ℕ). codes "Uniproc" ++ l) (cycle-text es)
   closing-told (Cycle es) = ap (λ (l : List ℕ). codes "Cycle" ++ l) (cycle-text es)
   closing-told (Amid r v w) = refl
   closing-told (False places) =
-      ap (λ (l : List ℕ). codes "False" ++ l) (each-text (text place_format) (λ p. (key_of t p.named, p.values)) (place_text t)
-      (λ p. ap (λ (l : List ℕ). codes " " ++ (key_of t p.named ++ (codes "=" ++ l))) (words-text p.values)) places)
+      ap (λ (l : List ℕ). codes "False" ++ l) (each-text (text place_format) (shown_place t) (place_text t)
+      (λ p. ap (λ (l : List ℕ). codes " " ++ (key_of t p.named ++ (codes "=" ++ l))) (values-text p.values)) places)
   closing-told (NoAnswer kind subject) = refl
   closing-told (ByLemma number) = refl
 
@@ -270,8 +270,12 @@ module _ (t : Litmus) (test : IsTest t) where
     all-mapped (EdgeFits t) (FitsFormat hop_format) (λ d. (relation_text d.relation, event_text t d.target)) hop-fits (e ∷ es) all,
   )
 
-  place-fits : (p : Place) → PlaceFits t p → FitsFormat place_format (key_of t p.named, p.values)
-  place-fits p fits = (key-spelled p.named fits.0, (fits.1, fits.2))
+  values-fit : (vs : List ℕ) → AllByRecursion IsNumberOf64Bits vs → FitsFormat values_format (values_told vs)
+  values-fit [] all = tt
+  values-fit (v ∷ vs) all = (tt, all)
+
+  place-fits : (p : Place) → PlaceFits t p → FitsFormat place_format (shown_place t p)
+  place-fits p fits = (key-spelled p.named fits.0, values-fit p.values fits.1)
 
   subject-spelled : (s : Subject) → SubjectFits t s → Spells subject_format (subject_text t s)
   subject-spelled (OfEvent e) fits = let s = event-spelled e fits in (This s.0, s.1, s.2)
@@ -283,7 +287,7 @@ module _ (t : Litmus) (test : IsTest t) where
   closing-fits (Uniproc es) fits = cycle-fits es fits
   closing-fits (Cycle es) fits = cycle-fits es fits
   closing-fits (Amid r v w) fits = (event-spelled r fits.0, (event-spelled v fits.1, event-spelled w fits.2))
-  closing-fits (False places) fits = all-mapped (PlaceFits t) (FitsFormat place_format) (λ p. (key_of t p.named, p.values)) place-fits places fits
+  closing-fits (False places) fits = all-mapped (PlaceFits t) (FitsFormat place_format) (shown_place t) place-fits places fits
   closing-fits (NoAnswer kind subject) fits = (fits.0, subject-spelled subject fits.1)
   closing-fits (ByLemma number) fits = fits
 

@@ -1,2 +1,3 @@
+pub mod ListedValues
 pub mod ReasonFormats
 pub mod ShownLines

@@ -1,6 +1,6 @@
 -- The lines that `why` prints of a refutation, as a format. Events, facts, places and what questions ask of are told as their texts.
 use Rattle.std.specs.Prelude.{ℕ, List, codes}
-use Rattle.formats.specs.Formats.{LocationName, AnyWord, Member, Tagged, Entry, Object, Chain, NoStep, Format, Nothing, Number, Word}
+use Rattle.formats.specs.Formats.{LocationName, AnyWord, Member, Tagged, Entry, Object, Chain, NoItem, Format, Nothing, Number, Word}
 use Rattle.formats.specs.Formats.{Printable, Times, Lead, Trail, Both, Either, Many, Separated, Spelled, As, fixed, optional}
 
 -- ---- events
@@ -75,11 +75,15 @@ facts_format = Separated (codes ", ") (Spelled fact_format)
 -- ` P0:0 W x=1 po P0:1 W y=1 ..`
 abbrev pub cycle_format : Format
 cycle_format = As (Member (codes "cycle"))
-    (Either (As NoStep Nothing) (As (Chain (codes "from") (codes "relation") (codes "to")) (Lead (codes " ") (Both (Spelled event_format) (Many hop_format)))))
+    (Either (As NoItem Nothing) (As (Chain (codes "from") (codes "relation") (codes "to")) (Lead (codes " ") (Both (Spelled event_format) (Many hop_format)))))
 
--- ` 1:EAX=0`, or ` x=1|2`
+-- `0`, or `1|2`, or nothing where no value is left
+abbrev pub values_format : Format
+values_format = Either (As NoItem Nothing) (Separated (codes "|") Number)
+
+-- ` 1:EAX=0`, ` x=1|2`, or ` 2:EAX=`
 abbrev pub place_format : Format
-place_format = As Entry (Lead (codes " ") (Both (Spelled key_format) (Lead (codes "=") (Separated (codes "|") Number))))
+place_format = As Entry (Lead (codes " ") (Both (Spelled key_format) (Lead (codes "=") values_format)))
 
 -- an event, a location, or its initial word
 abbrev pub subject_format : Format

@@ -25,7 +25,7 @@ use Rattle.search_report.specs.LineJson.{line_value}
 use Rattle.formats.specs.Formats.{AnyWord, is_in, IsSome, This, That, Value, text, Spells}
 use Rattle.formats.specs.JsonData.{data_of}
 use Rattle.told_reasons.specs.ReasonFormats.{answered_format, asked_format, closed_format, closing_format, cycle_format, line_format}
-use Rattle.told_reasons.specs.ReasonFormats.{question_format, question_word_format, reason_format, verdict_format}
+use Rattle.told_reasons.specs.ReasonFormats.{place_format, question_format, question_word_format, reason_format, values_format, verdict_format}
 
 -- ---- what lines tell
 
@@ -33,11 +33,18 @@ abbrev pub shown_cycle : Litmus → List Edge → Value cycle_format
 shown_cycle t [] = This tt
 shown_cycle t (e ∷ es) = That (event_text t e.source, map (λ d. (relation_text d.relation, event_text t d.target)) (e ∷ es))
 
+abbrev pub values_told : List ℕ → Value values_format
+values_told [] = This tt
+values_told (v ∷ vs) = That (v ∷ vs)
+
+abbrev pub shown_place : Litmus → Place → Value place_format
+shown_place t p = (key_of t p.named, values_told p.values)
+
 abbrev pub shown_closing : Litmus → Closing → Value closing_format
 shown_closing t (Uniproc edges) = This (shown_cycle t edges)
 shown_closing t (Cycle edges) = That (This (shown_cycle t edges))
 shown_closing t (Amid r v w) = That (That (This (event_text t r, (event_text t v, event_text t w))))
-shown_closing t (False places) = That (That (That (This (map (λ p. (key_of t p.named, p.values)) places))))
+shown_closing t (False places) = That (That (That (This (map (shown_place t) places))))
 shown_closing t (NoAnswer kind subject) = That (That (That (That (This (kind, subject_text t subject)))))
 shown_closing t (ByLemma number) = That (That (That (That (That number))))
 
@@ -109,8 +116,9 @@ abbrev pub IsKey : Litmus → Named → Type 0
 IsKey t (Register core reg) = IsNumberOf64Bits core.0
 IsKey t (Location loc) = loc.0 < length t.locations
 
+-- a place may have no value: where none is left
 abbrev pub PlaceFits : Litmus → Place → Type 0
-PlaceFits t p = IsKey t p.named × IsSome p.values × AllByRecursion IsNumberOf64Bits p.values
+PlaceFits t p = IsKey t p.named × AllByRecursion IsNumberOf64Bits p.values
 
 abbrev pub SubjectFits : Litmus → Subject → Type 0
 SubjectFits t (OfEvent e) = EventFits t e

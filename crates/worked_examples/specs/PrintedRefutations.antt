@@ -1,14 +1,16 @@
 -- Worked refutations: what is printed of the literature's small tests, of a lock and of a counter, byte for byte.
 use Rattle.std.specs.Prelude.{ℕ, List, [], ◌∷◌, ◌++◌, codes}
 use Rattle.tso_terms.specs.Thread.{entry}
-use Rattle.basic_laws.specs.Types.{Exists, NotExists, W}
+use Rattle.tso_terms.specs.Condition.{LocClaim, RegClaim}
+use Rattle.basic_laws.specs.Types.{Eax, Exists, NotExists, W}
 use Rattle.tso_terms.specs.Litmus.{Litmus}
 use Rattle.order_builder.specs.PrintedOrder.{printed_lines}
 use Rattle.basic_laws.specs.Types.{R}
 use Rattle.tso_terms.specs.Examples.{loc_x, loc_y}
 use Rattle.possible_reads.specs.Facts.{Before}
-use Rattle.lemma_refutations.specs.Refutations.{Node, Asks, Globally, ReadsFrom}
-use Rattle.lemma_refutations.specs.Worked.{counter_of_three, counts_two, lock_of_three, none_has_it, second_first_and_last, exchanged_in_turn, two_have_it}
+use Rattle.lemma_refutations.specs.Refutations.{Node, Asks, FalseClaim, Globally, ReadsFrom}
+use Rattle.lemma_refutations.specs.Worked.{counter_of_three, counts_two, crossed, lock_of_three, none_has_it, second_first_and_last}
+use Rattle.lemma_refutations.specs.Worked.{exchanged_in_turn, two_have_it}
 use Rattle.worked_examples.specs.PrintedExecutions.{asking}
 
 -- message passing: the flag is read as set, and x as not yet stored
@@ -101,6 +103,44 @@ count_lines = printed_lines
     ∷ (codes "False x=3"
     ∷ (codes "Verdict No"
     ∷ [])))))
+
+-- a location to which two cores store 1 and 2, and which is to have 3: both are left
+abbrev pub words_asked : Litmus
+words_asked = asking crossed Exists (LocClaim 0 3)
+
+abbrev pub words_lines : List ℕ
+words_lines = printed_lines
+    (codes "Test 2+2W"
+    ∷ (codes "Never tso leaves=1"
+    ∷ (codes "Asked exists true"
+    ∷ (codes "False x=1|2"
+    ∷ (codes "Verdict No"
+    ∷ [])))))
+
+-- a counter of which one core of three is to find 3: no value is left to what it finds
+abbrev pub found_asked : Litmus
+found_asked = asking counter_of_three Exists (RegClaim 0 Eax 3)
+
+abbrev pub found_lines : List ℕ
+found_lines = printed_lines
+    (codes "Test counter"
+    ∷ (codes "Never tso leaves=1"
+    ∷ (codes "Asked exists true"
+    ∷ (codes "Given P0:0 LR x=3"
+    ∷ (codes "False 0:EAX="
+    ∷ (codes "Verdict No"
+    ∷ []))))))
+
+abbrev pub found_value : List ℕ
+found_value =
+    codes "{\"answer\":\"never\",\"asked\":{\"kind\":\"exists\",\"truth\":true},\"leaves\":1,\"model\":\"tso\","
+    ++ (codes "\"steps\":[{\"facts\":[\"P0:0 LR x=3\"],\"step\":\"given\"},"
+    ++ (codes "{\"closing\":{\"places\":{\"0:EAX\":[]},\"step\":\"false\"},\"depth\":0,\"step\":\"leaf\"}],"
+    ++ codes "\"test\":\"counter\",\"verdict\":\"No\"}\n"))
+
+-- what is asked of both is false
+abbrev pub false_alone : List Node
+false_alone = FalseClaim ∷ []
 
 -- a word of an exchange that nobody reads, and that isn't the last one
 abbrev pub turns_asked : Litmus

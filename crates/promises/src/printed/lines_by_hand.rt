@@ -1,22 +1,29 @@
 //! What a person who reads a printed refutation by hand can rely on, said again in plain terms.
 
 ghost use Rattle.std.specs.List.{AllByRecursion, list_any};
-ghost use Rattle.std.specs.Prelude.{◌+◌, ◌<◌, ◌≡◌, ◌⊎◌, ◌++◌, ◌∷◌, All, Contains, List, None, Some, [], false, length, map, true, ℕ};
+ghost use Rattle.std.specs.Prelude.{◌+◌, ◌<◌, ◌≡◌, ◌⊎◌, ◌++◌, ◌∷◌, All, Contains, List, None, Some, [], false, filter, length, map, true, ℕ};
 ghost use Rattle.tso_terms.specs.Condition.{Claim, NamesExist, truth_of};
 ghost use Rattle.tso_terms.specs.FinalState.{final_registers, final_words};
 ghost use Rattle.tso_terms.specs.Litmus.{IsTest, Litmus};
+ghost use Rattle.tso_terms.specs.ProgramOrder.{is_read};
 ghost use Rattle.basic_laws.specs.Types.{Entry};
+ghost use Rattle.relational_model.specs.Candidates.{Candidate};
+ghost use Rattle.relational_model.specs.Model.{IsAllowed};
+ghost use Rattle.refutation_laws.specs.Agreement.{Stands};
 ghost use Rattle.refutation_laws.specs.Models.{IsExecutionOf};
 ghost use Rattle.refutation_laws.specs.Refutations.{asked_claim};
 ghost use Rattle.refutation_laws.specs.declared.model.Model.{Model};
 ghost use Rattle.possible_reads.specs.Facts.{Fact, given_by};
+ghost use Rattle.possible_reads.specs.Laws.{AreMet, ReadIsPossible};
+ghost use Rattle.possible_reads.specs.Possible.{is_among, last_words, readings};
 ghost use Rattle.lemma_refutations.specs.Refutations.{Lemma, Node, answers, is_impossible, is_node, known_from, refutes};
 ghost use Rattle.tso_report.specs.Tally.{shown_value};
+ghost use Rattle.tso_report.specs.declared.named.Named.{Named};
 ghost use Rattle.search_report.specs.FalseLines.{IsAsGiven};
 ghost use Rattle.search_report.specs.LineJson.{line_value, never_json, never_json_line};
 ghost use Rattle.search_report.specs.LineText.{line_text, never_lines, never_text};
 ghost use Rattle.search_report.specs.Lines.{Case, Leaf, Line, So, deeper, given_lines, leaves_in, question_word};
-ghost use Rattle.search_report.specs.Shown.{Closing, closing_at, places_false};
+ghost use Rattle.search_report.specs.Shown.{Closing, False, closing_at, is_on_events, places_false};
 ghost use Rattle.search_report.specs.ShownText.{closing_text};
 ghost use Rattle.printed_laws.specs.ByHand.{AreCasesOf, ClosesBranch, HasClosedCase, HasLemmaFirst, HasOpenCase, HaveCases, IsLeafLine};
 ghost use Rattle.printed_laws.specs.ByHand.{LinesRefute, LinesRefuteInTurn, LinesRefuteWithin, ListHas, RefuteByHand};
@@ -25,14 +32,15 @@ ghost use Rattle.serde_json.specs.Written.{has_float};
 ghost use Rattle.formats.specs.Beginnings.{First, begins_so, is_clear};
 ghost use Rattle.formats.specs.Formats.{FitsFormat, Format, Value, text};
 ghost use Rattle.formats.specs.JsonData.{data_of};
+ghost use Rattle.told_reasons.specs.ListedValues.{value_left};
 ghost use Rattle.told_reasons.specs.ReasonFormats.{line_format};
-ghost use Rattle.told_reasons.specs.ShownLines.{LineFits, LineIsChained, shown_asked, shown_line};
+ghost use Rattle.told_reasons.specs.ShownLines.{IsKey, LineFits, LineIsChained, shown_asked, shown_line};
 
 use formats::{data_has_no_float, texts_tell_their_values};
 use lemma_refutations::refutations_by_lemmas_are_sound;
 use printed_laws::{printed_lines_refute, reasons_tell_their_tests};
 use search_report::false_lines_are_so;
-use told_reasons::{lines_are_of_one_format, printed_reasons_are_told};
+use told_reasons::{lines_are_of_one_format, listed_values_are_all_left, printed_reasons_are_told};
 
 /// What is printed of a refutation, as lines or as JSON, is made of lines that refute; and what lines refute is true of no execution.
 pub fn a_reason_is_read_by_hand()
@@ -119,6 +127,18 @@ pub fn a_printed_false_line_is_so()
     false_lines_are_so();
 }
 
+/// What stands beside a place of a line `False` is all that is left there: take an allowed candidate that meets the facts on events of the
+/// line's case, and whose reads read from and return what is left to them. At its end the place has one of the values that are listed.
+/// (Where these facts leave a location any value, it has to be as asked too.)
+pub fn a_false_line_lists_all_that_is_left()
+    ensures { (t : Litmus) (c : Candidate) (facts : List Fact) → IsAllowed t c → AreMet t c (filter is_on_events facts)
+        → ((read r : Entry) → Stands t c read r → is_read r ≡ true → ReadIsPossible t c (readings t facts) read r)
+        → ((loc : ℕ) → last_words t (filter is_on_events facts) (readings t facts) loc ≡ None → AreMet t c facts)
+        → AllByRecursion (λ p. is_among p.values (value_left t c p.named) ≡ true) (places_false t (known_from t facts) facts) }
+{
+    listed_values_are_all_left();
+}
+
 /// Printed lines that are the same are of tests of one name, of one model, and close as many cases, where these are fewer than 2^64.
 pub fn reasons_are_told_apart()
     ensures tests { (model other : Model) (t u : Litmus) (lines others : List Line)
@@ -146,6 +166,12 @@ pub fn printed_reasons_are_told_apart()
 {
     printed_reasons_are_told();
 }
+
+/// A line `False` may have a place without a value, and fits its test all the same. So it is told as each other line is.
+pub fn a_place_may_have_no_value()
+    ensures { (t : Litmus) (depth : ℕ) (named : Named) → IsKey t named
+        → LineFits t (Leaf depth (False (record { named = named; values = [] } ∷ []))) }
+{}
 
 /// The text of a line, and its JSON where the edges of a cycle follow one another, are those of one value of one format.
 pub fn a_line_is_of_one_format()
