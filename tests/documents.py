@@ -15,10 +15,10 @@ Blocks fenced as `sh` aren't run: they prove, test, or need a fresh checkout, a 
 Then come the sentences of README.md and the pages of docs/, none of more than 40 words (tests/checks/documents/sentence_lengths.py says how they are
 counted), the words of README.md (1,200 at most), the links of all documents and the files that they name, the names of refusals among
 the messages, the letters of breaches (each beside its axiom's name), the page of what is proved (short cells), the guided reading (each
-definition with its file where it first has its name), the names of definitions, what each crate rests on (docs/ARCHITECTURE.md), the list of
-all pages (docs/README.md), the lists of files that a further protocol or command touches (docs/HACKING.md), and the tables of
-docs/REFERENCE.md (commands, options, statuses) and of docs/INPUT.md (limits), against the program, its help, the manual page and the limits
-as plain numbers (tests/checks/documents/reference_tables.py). The table of what C++'s orders become, and the commands on code of one's own, are held
+definition with its file where it first has its name), the names of definitions, what each crate rests on and the functions that walks name
+(docs/ARCHITECTURE.md, tests/checks/documents/code_walks.py), the list of all pages (docs/README.md), the lists of files that a further protocol
+or command touches (docs/HACKING.md), and the tables of docs/REFERENCE.md (commands, options, statuses) and of docs/INPUT.md (limits), against
+the program, its help, the manual page and the limits as plain numbers (tests/checks/documents/reference_tables.py). The table of what C++'s orders become, and the commands on code of one's own, are held
 against the compilers that are there (tests/checks/documents/compiler_mapping.py), and each picture of docs/pictures/ is made anew
 (tests/document_pictures.py). The last line is 'N passed, M failed'.
 """
@@ -33,7 +33,7 @@ import tempfile
 
 sys.dont_write_bytecode = True
 from checks import judging
-from checks.documents import compiler_mapping, reference_tables, sentence_lengths
+from checks.documents import code_walks, compiler_mapping, reference_tables, sentence_lengths
 from checks.documents.reference_tables import README, SECONDS
 from checks.judging import TOP, content
 
@@ -382,6 +382,7 @@ def rows_of(program):
     yield "names of refusals", faults_of_names
     yield "scripts of tests/", faults_of_scripts
     yield "crates of docs/ARCHITECTURE.md", faults_of_crates
+    yield "walks of docs/ARCHITECTURE.md", code_walks.faults_of_walks
     yield "pages of docs/README.md", faults_of_pages
     yield "files of crates in docs/HACKING.md", faults_of_crates_files
     yield "files that a further protocol touches", lambda: faults_of_list("A further protocol", lists_the_protocols)

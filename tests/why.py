@@ -8,7 +8,8 @@ The tests are those of the gallery and of the examples, some of examples/cycles.
 disjunctions, and without a condition, of x86-TSO and of sequential consistency:
 
 - a refutation refutes: each question has all its cases, each closing holds by the facts that are given there, each lemma is shown before it is
-  used, and it is printed as its definition has it, byte for byte (tests/reference/, printed_refutations and lemma_refutations);
+  used, and it is printed as its definition has it, byte for byte (tests/reference/, printed_refutations and lemma_refutations); and each of
+  its lines fits the test (tests/checks/reasons/line_fits.py);
 - of an execution the choices lead there, by `run` and by a machine in Python, its candidate is allowed by the relational model, what
   is asked is so, and it is printed as its definition has it;
 - `--json` says the same;
@@ -30,7 +31,7 @@ import time
 sys.dont_write_bytecode = True
 
 from checks import instruction_sets, judging
-from checks.reasons import reason_inputs, reason_slips, lemma_refutation_slips
+from checks.reasons import line_fits, reason_inputs, reason_slips, lemma_refutation_slips
 from checks.tools import tool_runs
 from reference import candidates, conditions, litmus, printing, reading, reasons, refutations
 
@@ -63,7 +64,8 @@ class Answer:
         status = status_of_assertion(test, self) if "--assert" in AS_JSON[model] else judging.ENDED
         if (self.plain.returncode, self.as_json.returncode) != (judging.ENDED, status) or self.as_json.stderr:
             return ["%s; as JSON %s, and not status %d" % (judging.described(self.plain), judging.described(self.as_json), status)]
-        return reasons.faults_of_both(test, model, self.text, self.as_json.stdout.decode("latin-1"))
+        as_json = self.as_json.stdout.decode("latin-1")
+        return reasons.faults_of_both(test, model, self.text, as_json) or line_fits.faults_of(test, model, json.loads(as_json))
 
     def is_allowed(self):
         return "\nAllowed " in self.text
@@ -210,6 +212,7 @@ def main():
     asked = parser.parse_args()
     programs, tally = judging.programs_in(asked), judging.Tally()
     tally.add("the judge of reasons", lemma_refutation_slips.judge())
+    tally.add("the judge of lines", list(line_fits.judge(reading.read_test(judging.STORE_BUFFERING), candidates.TSO)))
     tally.add("why", judging.judged(rows_of(reason_inputs.repository()), programs, asked.part, at_once=4))
     tally.add("why", judging.judged_in_turn(rows_of(inputs(asked.whole, asked.seed)), programs, asked.part, at_once=4))
     if asked.whole:

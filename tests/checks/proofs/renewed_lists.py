@@ -12,6 +12,12 @@ from checks.judging import TOP
 GONE = "# gone: "
 
 
+def from_history(*words):
+    """What git answers to these words, or nothing where it can't."""
+    done = subprocess.run(["git", *words], cwd=TOP, stdout=subprocess.PIPE, stderr=subprocess.DEVNULL, text=True)
+    return done.stdout if done.returncode == 0 else ""
+
+
 class RenewedList:
     """A list of tests/data/, with what stands between a name and what is said of it."""
 
@@ -37,9 +43,9 @@ class RenewedList:
 
     def released(self):
         """What it said in the last release, by name; None where no history tells."""
-        last = subprocess.run(["git", "log", "-1", "--format=%H", "--", "release"], cwd=TOP, stdout=subprocess.PIPE, stderr=subprocess.DEVNULL, text=True)
-        then = subprocess.run(["git", "show", "%s:%s" % (last.stdout.strip(), self.shown)], cwd=TOP, stdout=subprocess.PIPE, stderr=subprocess.DEVNULL, text=True)
-        return self.said(then.stdout) if last.stdout.strip() and not then.returncode else None
+        last = from_history("log", "-1", "--format=%H", "--", "release")
+        text = from_history("show", "%s:%s" % (last.strip(), self.shown)) if last else None
+        return self.said(text) if text else None
 
     def lost(self, excused=()):
         """A fault for each name that the last release's list had, this one hasn't, and no line tells why."""
