@@ -17,7 +17,7 @@ const LESSONS = [{
     { ask: 'Two stores still wait. When they drain, can EAX of P0 or of P1 still change?', answers: ['Yes', 'No'], right: 'No', because: 'A load reads once. A drain changes only memory.' },
     { do: '0d', look: 'picture', then: 'Memory has x=1 now. W is the store, and the bar says how long it had waited.' },
     { do: '1d', say: 'And P1\'s store. Here you choose when: a processor drains a store when it likes.', look: 'picture', then: 'The memory order has both loads above both stores, although each program has its store first.' },
-    { show: 'outcomes', say: 'So yes, both loads can read 0. What else can come out? Press “Find all outcomes”: proved code tries every order of steps and drains.' },
+    { show: 'outcomes', say: 'So yes, both loads can read 0. What else can come out? Press “Find all outcomes”: proved code finds them all, whatever the order of steps and drains.' },
     { say: 'There are four. The one marked “TSO alone” needs store buffers. Without them each store is in memory at once. That is sequential consistency (SC): at least one load reads 1.' },
     { say: 'What you can say now\n• Both loads can read 0: each store waits in its core\'s buffer, and the load passes it.\n• TSO, the memory order of x86 processors (Intel, AMD), lets a later load pass a store, and nothing else.\n• Without store buffers (SC) it can\'t be.', also: { to: 'fences', says: 'Skip to lesson 2: The same with fences' } },
     { test: 'X86 OWN\n{ x=0; }\n P0          | P1          ;\n MOV [x],$1  | MOV EAX,[x] ;\n MOV [x],$2  |             ;\n MOV EAX,[x] |             ;\n', title: 'What does a core see of its own stores?', say: 'Another test: P0 stores 1 to x, then 2, and then loads x. What if these stores still wait in its own buffer?' },

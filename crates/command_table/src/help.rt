@@ -137,7 +137,7 @@ If there is one, Allowed stands first, and the execution follows: From tells wha
 Coherence has the writes to each location in their order, By has choices under which run ends there (at\n\
 --depth 32, for --model sc at --depth 0), and State has the values. Verdict is Ok if the condition's\n\
 claim holds, else No: exists claims that the proposition is true in some execution, ~exists in none,\n\
-forall in all. If why would have to tell more cases apart than --cases, it prints only Unfinished.\n\
+forall in all. If why gives up at its limit, --cases, it prints only Unfinished.\n\
 \n\
 Exit status: 0 the answer is printed, 1 the test was refused, 2 the command line was refused, 3 --cases\n\
 was too few, 4 with --assert the verdict is No, 5 memory, input or output failed.\n\
