@@ -45,7 +45,7 @@ function waysOn(command, { isStopped = false, met = 0, known = met, among } = {}
   const found = whySaid(), name = LIMIT_OF[command], most = Number(settingOf(name).max), next = Math.min(most, MORE * valueOf(name));
   const again = html('li', {}, html('button', { 'data-ask': command }, 'Begin again'), ' It starts from nothing, with the same limit.');
   const allow = html('button', { 'data-more': `${name} ${next}` }, `Allow ${next.toLocaleString('en')} ${name}`);
-  const higher = next > valueOf(name) ? [html('li', {}, allow, ' It takes longer, and more memory.')] : [];
+  const higher = next > valueOf(name) ? [html('li', {}, allow, ` It can take ${MORE} times as long, and as much memory${command === 'outcomes' ? ': 1,000,000 states of a large test take up to half a minute' : ''}.`)] : [];
   const shown = html('li', {}, html('button', { 'data-met': '' }, 'Show what was met'), ` ${known === 1 ? 'One outcome' : `${known} outcomes`}${known > met ? `: this search met ${met}, earlier ones ${known - met} more` : ''}, among the first ${grouped(among ?? 0)} states. Later ones weren't told yet.`);
   const other = command === 'outcomes'
     ? [html('li', {}, html('button', { 'data-ask': 'why' }, found === null ? 'Ask why' : 'Show it'), found !== null ? ` “Why” has ${found}.` : ' It looks at the one end that the condition asks for, and needs no states.')]

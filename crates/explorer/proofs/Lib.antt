@@ -6,6 +6,7 @@ pub mod Exchanging
 pub mod Linking
 pub mod Mapping
 pub mod Planning
+pub mod StillToCome
 pub mod Forgets
 pub mod ReadBack
 pub mod Searching

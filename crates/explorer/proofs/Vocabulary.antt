@@ -31,7 +31,8 @@ pub use Rattle.indexmap.specs.IndexSet.{insert_key}
 pub use Rattle.tso_terms.specs.Runs.{stall_count, CoresExist, is_done, all_done, has_ended, resting, then_run, run_from, run}
 pub use Rattle.tso_laws.specs.Eager.{IsEager, IsEagerBy, Avoids, meets}
 pub use Rattle.tso_laws.specs.Closed.{LeadsEagerly, IsAmongStates, IsCovered, IsExpandedEnough, ArePartlyClosed, PartlyClosedStatesMissNone}
-pub use Rattle.explorer.specs.Settled.{LeadsBy, IsSettled, LeadsToForgotten}
+pub use Rattle.explorer.specs.Settled.{LeadsBy, LeadsToForgotten}
+pub use Rattle.explorer.specs.inner.Settled.{IsSettled}
 pub use Rattle.explorer.specs.inner.Settled.{Grows, IsKeptState, HaveCores, IsCurrent, LeadOn, AreAppended, IsReachedByChoice, IsVisited}
 pub use Rattle.explorer.specs.inner.Settled.{ArePicksVisited, AreLinked, LeadByTurns, IsLinked, IsPath, GoBack, LeadToExchanged, IsInOrder}
 pub use Rattle.flat_machine.specs.declared.snapshot.Snapshot.{Snapshot}

@@ -1,10 +1,9 @@
 -- What the search keeps, as a contract above it may say: choices lead from state to state, and none of them stalls.
-use Rattle.std.specs.Prelude.{ℕ, ◌≡◌, ◌<◌, ◌++◌, Bool, List, [], ◌∷◌, length}
+use Rattle.std.specs.Prelude.{ℕ, ◌≡◌, ◌<◌, Bool, List, [], ◌∷◌, length}
 use Rattle.tso_terms.specs.Litmus.{Litmus}
 use Rattle.tso_terms.specs.FlatMachine.{State, after_choice, effect_of, chosen}
 use Rattle.tso_terms.specs.Runs.{stall_count}
 use Rattle.tso_terms.specs.declared.choice.Choice.{Choice}
-use Rattle.tso_laws.specs.Closed.{LeadsEagerly}
 use Rattle.tso_laws.specs.Dead.{forgotten}
 
 -- made one after the other, the choices lead from the one state to the other; each is of one of the test's cores and takes effect
@@ -19,10 +18,3 @@ pub record LeadsToForgotten (depth : ℕ) (t : Litmus) (hidden : List (List Bool
   pub last : State
   pub leads : LeadsBy depth t state choices last
   pub kept_is : forgotten t hidden last ≡ kept
-
--- eager choices were appended that lead from the old state to the new one
-pub record IsSettled (depth : ℕ) (t : Litmus) (old new : State) (before after : List Choice) : Type 0 where
-  pub made : List Choice
-  pub eager : LeadsEagerly depth t old made new
-  pub leads : LeadsBy depth t old made new
-  pub appended : after ≡ before ++ made

@@ -5,14 +5,16 @@ ghost use Rattle.tso_terms.specs.FlatMachine.{chosen};
 ghost use Rattle.tso_terms.specs.declared.choice.Choice.{Choice};
 ghost use Rattle.tso_laws.specs.Eager.{OthersAvoid, IsEager, IsEagerBy};
 ghost use Rattle.flat_machine.specs.State.{state_of_snapshot};
-ghost use Rattle.explorer.specs.Settled.{IsSettled};
+ghost use Rattle.explorer.specs.inner.Settled.{IsSettled};
+ghost use Rattle.explorer.specs.inner.Planned.{IsPlan};
 
 use crate::meeting::Meeting;
+use crate::plan::Plan;
 use crate::situation::Situation;
 use crate::stubborn::{NOTHING, others_are_held_back};
 use flat_machine::{Snapshot, act};
 use tso_laws::eager_choices_take_effect;
-use tso_terms::{Action, Choice, Core, Entry, NoMemory, Test};
+use tso_terms::{Action, Choice, Core, Entry, NoMemory};
 
 /// Maximum number of choices that a test takes: for each core two for each instruction.
 const MOST_CHOICES: usize = 512;
@@ -46,17 +48,23 @@ fn is_eager_step(at: &Situation, core: Core) -> bool
 }
 
 /// A choice that need not wait, if there is one.
-fn eager_choice(state: &Snapshot, test: &Test, depth: u8) -> Option<Choice>
-    requires { length state.now.cores.items ≡ length test.now.programs }
-    ensures eager { IfSome result (λ c. IsEager depth test.now (state_of_snapshot state.now) c) }
-    ensures core { IfSome result (λ c. chosen c < length test.now.programs) }
+fn eager_choice(state: &Snapshot, plan: &Plan) -> Option<Choice>
+    requires cores { length state.now.cores.items ≡ length plan.now.test.now.programs }
+    requires plan { IsPlan plan.now }
+    ensures eager { IfSome result (λ c. IsEager plan.now.depth plan.now.test.now (state_of_snapshot state.now) c) }
+    ensures core { IfSome result (λ c. chosen c < length plan.now.test.now.programs) }
 {
-    let at = Situation { state, test, depth };
-    for core in 0..test.cores() {
+    let at = Situation {
+        state,
+        test: plan.test,
+        depth: plan.depth,
+        coming: &plan.coming,
+    };
+    for core in 0..plan.test.cores() {
         if is_eager_step(&at, Core(core)) {
             return Some(Choice::Step(Core(core)));
         }
-        if depth == 0 {
+        if plan.depth == 0 {
             continue;
         }
         if let Some((oldest, _later)) = at.pending(Core(core)).split_first() {
@@ -75,22 +83,23 @@ fn eager_choice(state: &Snapshot, test: &Test, depth: u8) -> Option<Choice>
 /// Makes choices that need not wait, one after the other, and appends them.
 ///
 /// Errors: out of memory only; choices may have been made then.
-pub fn settle(
+pub fn run_ahead(
     state: &mut Snapshot,
-    test: &Test,
-    depth: u8,
+    plan: &Plan,
     choices: &mut Vec<Choice>,
 ) -> Result<(), NoMemory>
-    requires { length state.old.cores.items ≡ length test.now.programs }
-    ensures settled { OnOk result (IsSettled depth test.now (state_of_snapshot state.old) (state_of_snapshot state.new) choices.old.items choices.new.items) }
-    ensures cores { OnOk result (length state.new.cores.items ≡ length test.now.programs) }
+    requires cores { length state.old.cores.items ≡ length plan.now.test.now.programs }
+    requires plan { IsPlan plan.now }
+    ensures settled { OnOk result (IsSettled plan.now.depth plan.now.test.now
+        (state_of_snapshot state.old) (state_of_snapshot state.new) choices.old.items choices.new.items) }
+    ensures cores { OnOk result (length state.new.cores.items ≡ length plan.now.test.now.programs) }
 {
     eager_choices_take_effect();
     for _made in 0..MOST_CHOICES {
-        match eager_choice(state, test, depth) {
+        match eager_choice(state, plan) {
             None => break,
             Some(choice) => {
-                act(state, test, depth, choice)?;
+                act(state, plan.test, plan.depth, choice)?;
                 choices.push(choice)?;
             }
         }

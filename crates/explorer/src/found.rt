@@ -8,7 +8,7 @@ ghost use Rattle.explorer.specs.inner.Packed.{state_of_packed};
 ghost use Rattle.explorer.specs.inner.Planned.{IsPlan};
 ghost use Rattle.explorer.specs.declared.plan.Plan.{Plan};
 
-use crate::eager::settle;
+use crate::eager::run_ahead;
 use crate::forgetting::forget;
 use crate::link::{Link, turns_of};
 use crate::packed::Packed;
@@ -83,7 +83,7 @@ pub fn begin(alloc: Global, plan: &Plan) -> Result<Found, NoMemory>
     let current = start(alloc, plan.test)?;
     let mut state = start(alloc, plan.test)?;
     let mut choices = Vec::new(alloc);
-    settle(&mut state, plan.test, plan.depth, &mut choices)?;
+    run_ahead(&mut state, plan, &mut choices)?;
     forget(&mut state, plan);
     let mut found = Found {
         states: IndexSet::new(alloc),

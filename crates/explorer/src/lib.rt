@@ -14,6 +14,7 @@
 mod alike;
 mod arranging;
 mod closing;
+pub mod coming;
 mod eager;
 mod exchange;
 pub mod fault;

@@ -5,12 +5,14 @@ ghost use Rattle.std.specs.Prelude.{◌≡◌, ◌<◌, ◌⊎◌, length};
 ghost use Rattle.tso_laws.specs.Stubborn.{IsStubborn};
 ghost use Rattle.flat_machine.specs.State.{state_of_snapshot};
 ghost use Rattle.explorer.specs.inner.Picked.{set_of, HasEvery};
+ghost use Rattle.explorer.specs.inner.Planned.{IsPlan};
 
-use crate::meeting::{Meeting, has_none_coming, has_none_pending};
+use crate::meeting::{Meeting, has_none_pending};
+use crate::plan::Plan;
 use crate::situation::Situation;
 use crate::stubborn::{NOTHING, Picked, is_stubborn};
 use flat_machine::Snapshot;
-use tso_terms::{Action, Core, Test};
+use tso_terms::{Action, Core};
 
 /// Every choice. No stubborn set has them all, for some are of cores that aren't there.
 const EVERY: u16 = 0xFFFF;
@@ -48,7 +50,7 @@ fn all_to_meet(at: &Situation, core: Core, meeting: Meeting) -> u16 {
         let processor = at.processor(Core(other));
         if !has_none_pending(processor, meeting.loc) {
             set |= drain_bit(other);
-        } else if !has_none_coming(at.test.program(Core(other)), processor, meeting) {
+        } else if !at.has_none_coming(Core(other), meeting) {
             set |= step_bit(other);
         }
     }
@@ -125,12 +127,19 @@ fn smallest(needs: &Needs) -> u16 {
 }
 
 /// A stubborn set of choices that has fewer than all of those that don't stall, if one is found, and else every choice.
-pub fn pick(state: &Snapshot, test: &Test, depth: u8) -> Picked
-    requires { length state.now.cores.items ≡ length test.now.programs }
-    ensures { IsStubborn depth test.now (set_of result) (state_of_snapshot state.now) ⊎ HasEvery (set_of result) (length test.now.programs) }
+pub fn pick(state: &Snapshot, plan: &Plan) -> Picked
+    requires cores { length state.now.cores.items ≡ length plan.now.test.now.programs }
+    requires plan { IsPlan plan.now }
+    ensures { IsStubborn plan.now.depth plan.now.test.now (set_of result) (state_of_snapshot state.now)
+        ⊎ HasEvery (set_of result) (length plan.now.test.now.programs) }
 {
-    test.know_limits();
-    let at = Situation { state, test, depth };
+    plan.test.know_limits();
+    let at = Situation {
+        state,
+        test: plan.test,
+        depth: plan.depth,
+        coming: &plan.coming,
+    };
     let set = smallest(&needs_of(&at));
     let mut picked = NOTHING;
     for core in 0..8u8 {

@@ -1,11 +1,12 @@
-//! What a search goes by: the test, the depth of its store buffers, and which registers are dead at each place of a
-//! program. That depends on the place alone, so it is worked out once, before the search, and not in each state. A register
-//! called dead that is read would make the search take different states for one.
+//! What a search goes by: the test, the depth of its store buffers, and for each place of a program which registers are dead
+//! there, and what is still to come. That depends on the place alone, so it is worked out once, before the search, and not in
+//! each state. A register called dead that is read would make the search take different states for one.
 ghost use Rattle.std.specs.Prelude.{◌≡◌, IfOk};
 ghost use Rattle.tso_laws.specs.Dead.{unless_read, dead_before, hidden_of};
 ghost use Rattle.explorer.specs.inner.Planned.{AreDead, IsPlan};
 
 use crate::alike::alike_pairs;
+use crate::coming::{Accesses, accesses_to_come};
 use std::alloc::Global;
 use tso_terms::{Action, Change, Core, Instr, NoMemory, Operand, Reg, Test, Update};
 
@@ -19,6 +20,8 @@ pub struct Plan<'a> {
     pub hidden: &'a [[bool; 6]],
     /// For each core, by how many of its instructions are still to come, which of its registers are dead.
     pub dead: Vec<Vec<[bool; 6]>>,
+    /// For each core, by how many of its instructions are still to come, what these do to memory.
+    pub coming: Vec<Vec<Accesses>>,
     /// Pairs of cores that are alike.
     pub alike: Vec<(u8, u8)>,
 }
@@ -140,9 +143,11 @@ pub fn plan_of<'a>(
     ensures hidden { IfOk result (λ plan. plan.hidden.now ≡ hidden.now) }
 {
     let mut dead = Vec::new(alloc);
+    let mut coming = Vec::new(alloc);
     for core in 0..test.cores() {
         let hidden = hidden_of(hidden, core);
         dead.push(dead_registers(alloc, test.program(Core(core)), hidden)?)?;
+        coming.push(accesses_to_come(alloc, test.program(Core(core)))?)?;
     }
     let alike = alike_pairs(alloc, test, hidden)?;
     Ok(Plan {
@@ -150,6 +155,7 @@ pub fn plan_of<'a>(
         depth,
         hidden,
         dead,
+        coming,
         alike,
     })
 }

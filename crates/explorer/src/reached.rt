@@ -7,7 +7,7 @@ ghost use Rattle.explorer.specs.inner.Planned.{IsPlan};
 ghost use Rattle.explorer.specs.inner.Settled.{IsReachedByChoice};
 
 use crate::arranging::arrange;
-use crate::eager::settle;
+use crate::eager::run_ahead;
 use crate::forgetting::forget;
 use crate::plan::Plan;
 use flat_machine::{Snapshot, act, has_stalled, is_idle, overwrite};
@@ -55,12 +55,7 @@ pub fn reach(
     }
     reached.choices.clear();
     reached.choices.push(choice)?;
-    settle(
-        &mut reached.state,
-        plan.test,
-        plan.depth,
-        &mut reached.choices,
-    )?;
+    run_ahead(&mut reached.state, plan, &mut reached.choices)?;
     forget(&mut reached.state, plan);
     reached.exchanges.clear();
     arrange(&mut reached.state, &plan.alike, &mut reached.exchanges)?;

@@ -66,7 +66,7 @@ pub fn expand(alloc: Global, found: &mut Found, plan: &Plan, from: usize) -> Res
         (map state_of_packed found.new.states.keys) (state_of_packed s)) }
 {
     unpack(&found.states[from], &mut found.current)?;
-    let picked = pick(&found.current, plan.test, plan.depth);
+    let picked = pick(&found.current, plan);
     for core in 0..plan.test.cores() {
         let its_step = Choice::Step(Core(core));
         visit_if(

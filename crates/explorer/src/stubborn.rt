@@ -6,7 +6,7 @@ ghost use Rattle.tso_laws.specs.Stubborn.{has_step, has_drain, has_choice, IsHel
 ghost use Rattle.flat_machine.specs.State.{state_of_snapshot};
 ghost use Rattle.explorer.specs.inner.Picked.{set_of, ArePicksApart};
 
-use crate::meeting::{Meeting, has_none_coming, has_none_pending, has_pending};
+use crate::meeting::{Meeting, has_none_pending, has_pending};
 use crate::situation::Situation;
 use tso_terms::{Action, Core, Entry, Loc};
 
@@ -43,8 +43,7 @@ fn is_held_back(at: &Situation, picked: &Picked, core: Core, meeting: Meeting) -
 {
     let processor = at.processor(core);
     if has_none_pending(processor, meeting.loc) {
-        return is_marked(&picked.steps, core.0)
-            || has_none_coming(at.test.program(core), processor, meeting);
+        return is_marked(&picked.steps, core.0) || at.has_none_coming(core, meeting);
     }
     at.depth > 0 && is_marked(&picked.drains, core.0) && has_pending(processor, meeting.loc)
 }

@@ -1,6 +1,7 @@
 -- What the search keeps from step to step: whatever a choice leads to from a state that was gone through is covered by a
 -- state that is kept. Nothing else shows that no end is missed.
-use Rattle.std.specs.Prelude.{ℕ, ◌≡◌, ◌≤◌, ◌++◌, Bool, true, List, [], length, map, Some, slice_get, ◌⊎◌, All, zero, suc}
+use Rattle.std.specs.Prelude.{ℕ, ◌≡◌, ◌≤◌, ◌++◌, Bool, true, List, [], length, map, Some, slice_get, ◌⊎◌, All, zero}
+use Rattle.std.specs.Prelude.{suc}
 use Rattle.tso_terms.specs.Litmus.{Litmus}
 use Rattle.tso_terms.specs.FlatMachine.{State, start, after_choice, step, drain}
 use Rattle.tso_terms.specs.declared.choice.Choice.{Choice}
@@ -117,3 +118,10 @@ pub record IsInOrder (plan : Plan) (found : Found) : Type 0 where
   pub linked : AreLinked plan.depth plan.test.now plan.hidden.now found.states.keys found.links.items
   pub current : length found.current.cores.items ≡ length plan.test.now.programs
   pub room : length found.reached.state.cores.items ≡ length plan.test.now.programs
+
+-- eager choices were appended that lead from the old state to the new one
+pub record IsSettled (depth : ℕ) (t : Litmus) (old new : State) (before after : List Choice) : Type 0 where
+  pub made : List Choice
+  pub eager : LeadsEagerly depth t old made new
+  pub leads : LeadsBy depth t old made new
+  pub appended : after ≡ before ++ made

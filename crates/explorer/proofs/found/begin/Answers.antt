@@ -10,19 +10,19 @@ returns-clause-found c =
     let none = c.new.ensures.empty in
     let settled =
     subst (λ z.
-    IsSettled d t z (state_of_snapshot c.settle.new.state) c.new-choices.result.items c.settle.new.choices.items)
-    c.in_ok-state.ensures.value c.in_ok-settle.ensures.settled in
+    IsSettled d t z (state_of_snapshot c.run_ahead.new.state) c.new-choices.result.items c.run_ahead.new.choices.items)
+    c.in_ok-state.ensures.value c.in_ok-run_ahead.ensures.settled in
     c.in_ok-keep.ensures.found c.args.plan.now (record {
       cores = subst (HaveCores t) (sym none) (cores-none t);
       linked =
           subst (λ z. AreLinked d t hidden z c.new-2.result.items) (sym none)
           (subst (AreLinked d t hidden []) (sym c.new-2.ensures.items) (no-links d t hidden));
       current = c.in_ok-current.ensures.cores;
-      room = c.forget.ensures.cores ∙ c.in_ok-settle.ensures.cores;
+      room = c.forget.ensures.cores ∙ c.in_ok-run_ahead.ensures.cores;
     }) (inl (
       none,
-      first-leads d t hidden (state_of_snapshot c.settle.new.state) (state_of_snapshot c.forget.new.state)
-          c.new-choices.result.items c.settle.new.choices.items c.new-4.result.items
+      first-leads d t hidden (state_of_snapshot c.run_ahead.new.state) (state_of_snapshot c.forget.new.state)
+          c.new-choices.result.items c.run_ahead.new.choices.items c.new-4.result.items
           c.new-choices.ensures.items settled c.forget.ensures.value c.new-4.ensures.items,
     ))
 
@@ -33,8 +33,8 @@ returns-clause-covered c =
     let hidden = c.args.plan.now.hidden.now in
     let settled =
     subst (λ z.
-    IsSettled d t z (state_of_snapshot c.settle.new.state) c.new-choices.result.items c.settle.new.choices.items)
-    c.in_ok-state.ensures.value c.in_ok-settle.ensures.settled in
-    first-covered d t hidden (state_of_snapshot c.settle.new.state) (state_of_snapshot c.forget.new.state)
-    c.new-choices.result.items c.settle.new.choices.items c.new-4.result.items c.new-choices.ensures.items settled
+    IsSettled d t z (state_of_snapshot c.run_ahead.new.state) c.new-choices.result.items c.run_ahead.new.choices.items)
+    c.in_ok-state.ensures.value c.in_ok-run_ahead.ensures.settled in
+    first-covered d t hidden (state_of_snapshot c.run_ahead.new.state) (state_of_snapshot c.forget.new.state)
+    c.new-choices.result.items c.run_ahead.new.choices.items c.new-4.result.items c.new-choices.ensures.items settled
     c.forget.ensures.value c.args.plan.now.alike.items c.keep.new.found.states.keys c.in_ok-keep.ensures.among

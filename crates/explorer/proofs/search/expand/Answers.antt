@@ -9,8 +9,8 @@ unpack-requires c =
     c.requires.found.current
     ∙ sym (kept-at c.args.plan.now.test.now _ c.args.from c.index.result.now c.requires.found.cores c.index.ensures).cores
 
-pub pick-picked-requires : goal.pick-picked-requires
-pick-picked-requires c = c.in_ok-unpack.ensures.cores ∙ c.requires.found.current
+pub pick-picked-requires-clause-cores : goal.pick-picked-requires-clause-cores
+pick-picked-requires-clause-cores c = c.in_ok-unpack.ensures.cores ∙ c.requires.found.current
 
 pub loop-core-init : goal.loop-core-init
 loop-core-init c = record {

@@ -1,8 +1,8 @@
 use Rattle.explorer.proofs.Searching.{settled-none, settled-more}
-use Rattle.explorer.proofs.eager.settle.Goals as goal
+use Rattle.explorer.proofs.eager.run_ahead.Goals as goal
 
 pub loop-made-init : goal.loop-made-init
-loop-made-init c = record { settled = settled-none _ _ _ _; cores = c.requires }
+loop-made-init c = record { settled = settled-none _ _ _ _; cores = c.requires.cores }
 
 pub loop-made-preserved : goal.loop-made-preserved
 loop-made-preserved c = record {
