@@ -47,7 +47,12 @@ returns c =
     let n = c.cores-core-end.ensures.value in
     let k = c.loop-core.invariant.count in
     record {
-      plan = record { count = omega (arith, l, m, n, k); each = c.loop-core.invariant.each; coming = c.loop-core.invariant.coming; alike = c.in_ok-alike.ensures };
+      plan = record {
+        count = omega (arith, l, m, n, k);
+        each = c.loop-core.invariant.each;
+        coming = c.loop-core.invariant.coming;
+        alike = c.in_ok-alike.ensures;
+      };
       test = refl;
       depth = refl;
       hidden = refl;
