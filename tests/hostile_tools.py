@@ -4,6 +4,7 @@
     tests/hostile_tools.py PROGRAM [PART-OF-NAME] [--tools FOLDER] [--whole] [--seed S]
 
 - What they write (checks/hostile/files_of_others.py): files that are one, files that are somebody else's, results that are none, full disks.
+- Files of results that others replace, remove or change meanwhile (checks/hostile/replaced_results.py).
 - What they start (checks/hostile/ended_tools.py): each tool is ended by INT, TERM, HUP and KILL, and no process or folder is left.
 - What they read (checks/hostile/hostile_texts.py): texts of 64 KiB that would take long, names with markup or with what steers a terminal, JSON of
   other kinds, streams that are closed; the statuses of all tools.
@@ -21,7 +22,7 @@ import sys
 
 sys.dont_write_bytecode = True
 from checks import judging
-from checks.hostile import attacked_tools, ended_tools, faulty_writes, files_of_others, hostile_texts, senseless_options
+from checks.hostile import attacked_tools, ended_tools, faulty_writes, files_of_others, hostile_texts, replaced_results, senseless_options
 from checks.tools import tool_runs
 
 import made_imports
@@ -44,7 +45,7 @@ def main():
     parser.add_argument("--seed", type=int, default=1)
     asked = parser.parse_args()
     heed_signals()
-    rows = files_of_others.ROWS + hostile_texts.ROWS + ended_tools.ROWS
+    rows = files_of_others.ROWS + replaced_results.ROWS + hostile_texts.ROWS + ended_tools.ROWS
     rows = [(name, judge) for name, judge in rows if asked.part in name]
     # some that take long stand side by side
     rows = [row for at in range(16) for row in rows[at::16]]

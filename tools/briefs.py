@@ -7,12 +7,13 @@ VERDICTS = {True: "Ok", False: "No"}
 
 def text_of(line, with_options):
     """A row in one line: the test, its options if there are several rows of it, what was found, and the verdict of its condition's claim.
-    Of a row that wants to be looked at it says why."""
+    Of a row that wants to be looked at it says why; and of one whose runs didn't all end how many did."""
     told = [line.members["test"], *(line.words if with_options else ()), *found_in(line)]
     told += [VERDICTS[line.claim]] if line.claim is not None else []
     if line.wants_a_look():
         told.append(line.rank)
         told += ["expected=" + line.members["expected"]] if line.rank == verdicts.DIFFERS else []
+    if line.wants_a_look() or "cores" in line.members:
         told += ["- " + why for why in line.members.get("why", [])]
     return " ".join(told)
 

@@ -3,6 +3,7 @@ import base64
 import hashlib
 import html
 
+import means
 import verdicts
 
 # What rows may choose, in the order in which a picture names it.
@@ -172,26 +173,31 @@ HEIGHT, NAMES, LONGEST, WIDTH = 20, 300, 340, 720
 
 
 def picture_of(name, lines):
-    """Bars of a number by what rows choose, each the mean of the tests; nothing where all rows choose the same."""
-    found, several = {}, [choice for choice in CHOICES if len({line.chosen.get(choice) for line in lines if line.test}) > 1]
-    for line in lines:
-        if name in numbers_of(line):
-            place = tuple(line.chosen.get(choice, "") for choice in several)
-            found.setdefault(place, []).append(numbers_of(line)[name])
-    means = {place: sum(found[place]) / len(found[place]) for place in sorted(found, key=lambda place: [*map(verdicts.in_order, place)])}
-    if len(means) < 2 or not any(means.values()):
+    """Bars of a number by what rows choose, each the mean of those tests that have it at each; nothing where all rows choose the same."""
+    several = [choice for choice in CHOICES if len({line.chosen.get(choice) for line in lines if line.test}) > 1]
+    by_place, ended = {}, {}
+    for line in filter(lambda line: line.test, lines):
+        place = tuple(line.chosen.get(choice, "") for choice in several)
+        of_tests, numbers = by_place.setdefault(place, {}), numbers_of(line)
+        of_tests.update({line.test: numbers[name]} if name in numbers else {})
+        # a test that has no number since it didn't end, and no other one
+        ended[line.test] = ended.get(line.test, True) and (name in numbers or line.members.get("ended") == 0)
+    common, means_at = means.shared(by_place)
+    if len(by_place) < 2 or common and not any(means_at.values()):
         return ""
     of_run = " a run, all cores" if any(line.members.get("cores") for line in lines) else ""
-    told = "%s%s, mean of %d tests" % (name.replace("_", "-"), of_run, max(map(len, found.values())))
-    names = [", ".join("%s %s" % pair for pair in zip(several, place)) for place in means]
-    bars = "\n".join(bar_of(at, names[at], value, max(means.values())) for at, value in enumerate(means.values()))
+    with_any = set().union(*by_place.values())
+    told = name.replace("_", "-") + of_run + ", " + means.mean_of(len(common), sum(map(bool, by_place.values())), [ended[test] for test in with_any - common])
+    places = sorted(by_place, key=lambda place: [*map(verdicts.in_order, place)])
+    names = [", ".join("%s %s" % pair for pair in zip(several, place)) for place in places]
+    bars = "\n".join(bar_of(at, names[at], means_at.get(place), max(means_at.values(), default=0)) for at, place in enumerate(places))
     return '<figure><figcaption>%s</figcaption>\n<svg viewBox="0 0 %d %d" role="img" aria-label="%s">\n%s\n</svg></figure>' % (
-        html.escape(told), WIDTH, HEIGHT * len(means), html.escape(told), bars)
+        html.escape(told), WIDTH, HEIGHT * len(places), html.escape(told), bars)
 
 
 def bar_of(at, name, value, greatest):
-    """A bar, with its name before it and its number behind it."""
-    length, below = LONGEST * value / greatest, HEIGHT * at
-    return ('<text x="%d" y="%d" text-anchor="end">%s</text><rect x="%d" y="%d" width="%.1f" height="%d"></rect><text x="%.1f" y="%d">%s</text>'
-            % (NAMES - 8, below + 15, html.escape(name), NAMES, below + 3, length, HEIGHT - 6,
-               NAMES + length + 6, below + 15, number_text(value)))
+    """A bar, with its name before it and its number behind it; where there is no number, that alone."""
+    length, below = LONGEST * value / greatest if value else 0, HEIGHT * at
+    rect = "" if value is None else '<rect x="%d" y="%d" width="%.1f" height="%d"></rect>' % (NAMES, below + 3, length, HEIGHT - 6)
+    return '<text x="%d" y="%d" text-anchor="end">%s</text>%s<text x="%.1f" y="%d">%s</text>' % (
+        NAMES - 8, below + 15, html.escape(name), rect, NAMES + length + 6, below + 15, "no number" if value is None else number_text(value))

@@ -53,6 +53,12 @@ class Plan:
                 yield from new
         self.whole = True
 
+    def rows_of(self, found):
+        """The rows of these sources, all of which are there."""
+        for source in found:
+            if source.why is None:
+                yield from self.of_text(source.text)[1]
+
     def list(self, found):
         """Lists rows, or sources that are no tests, each once."""
         new = [one for one in found if one not in self.listed]

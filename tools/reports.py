@@ -42,20 +42,29 @@ class Totals:
 
 # The last line, of a form that readers of herd7's and litmus7's logs pass over: by it a campaign knows its own log.
 END_OF_LOG = "% Results of a campaign %\n"
+BEGIN_OF_TEST = re.compile(r"^(?=Test |%s)" % END_OF_LOG, re.M)
 
 
-def log_of(lines):
-    """A log of the rows that have states, in the order of the tests' names, and how many rows have none. All states are in herd7's form,
-    what seeds met in litmus7's. Where a test has several rows, its options stand behind its name."""
-    told = sorted((line for line in lines if "states" in line.members), key=lambda line: line.order()[1:])
-    rows = collections.Counter(line.members["test"] for line in lines)
+def log_of(lines, rows):
+    """A log of those lines that have states, in the order of the tests' names. All states are in herd7's form, what seeds met in litmus7's.
+    Where a test has several rows, its options stand behind its name: `rows` has how many, by the tests' names."""
+    told = sorted(filter(has_states, lines), key=lambda line: line.order()[1:])
     texts = [log_of_line(line, line.words if rows[line.members["test"]] > 1 else ()) for line in told]
-    return "\n".join([*texts, END_OF_LOG]), len(lines) - len(told)
+    return "\n".join([*texts, END_OF_LOG])
+
+
+def has_states(line):
+    return "states" in line.members
 
 
 def is_log(data):
     """Whether these bytes are a log that a campaign wrote."""
     return data.endswith(b"\n" + END_OF_LOG.encode())
+
+
+def says_no_more(data, log):
+    """Whether these bytes are a log that says of no test what this one, a text, doesn't say."""
+    return is_log(data) and set(BEGIN_OF_TEST.split(data.decode("latin-1"))) <= set(BEGIN_OF_TEST.split(log))
 
 
 def log_of_line(line, words):

@@ -1,9 +1,11 @@
 """The file of a campaign's results: a JSON line a task, each once, written whole as it comes."""
 import fcntl
+import itertools
 import json
 import os
 import re
 import stat
+import tempfile
 
 import outputs
 
@@ -86,22 +88,22 @@ class Unkept:
 
 
 class Results:
-    """The results in a file, by task. A torn last line is cut off; two campaigns can't write one file at once."""
+    """The results in a file, by task. A torn last line is cut off; two campaigns can't write one file at once. Where the file is replaced,
+    removed or changed by others meanwhile, all results go into a new one beside it, and that is told."""
 
     beginnings, is_result = BEGINNINGS, staticmethod(is_result)
+    # all that a call has opened
+    written = []
 
     def __init__(self, path):
-        self.path, self.found, self.length = path, {}, 0
+        self.path, self.found, self.length, self.is_apart = path, {}, 0, False
         if os.path.exists(path) and not stat.S_ISREG(os.stat(path).st_mode):
             raise NoResults("results are kept in a file, and %s is none" % path)
-        self.file = open(path, "ab", buffering=0)
-        try:
-            fcntl.flock(self.file, fcntl.LOCK_EX | fcntl.LOCK_NB)
-        except BlockingIOError:
-            raise NoResults("another campaign writes %s" % path) from None
+        self.file = opened(path)
         with open(path, "rb") as lines:
             self.read(lines)
         self.file.truncate(self.length)
+        self.written.append(self)
 
     def read(self, lines):
         """Takes the results that are there. What is no file of results is told, and stays as it is."""
@@ -147,10 +149,87 @@ class Results:
         self.found[one["task"]] = one
         if "fault" in one:
             return
-        line = json.dumps(one, sort_keys=True).encode("ascii") + b"\n"
+        self.settle()
+        line = line_of(one)
         try:
             outputs.write_whole(self.file.fileno(), line)
         except OSError as fault:
             self.file.truncate(self.length)
             raise OSError(fault.errno, os.strerror(fault.errno), self.path) from None
         self.length += len(line)
+
+    def settle(self):
+        """Has all results stand in a file that is still there. Where that isn't the one of this name any more, NoResults tells which it is."""
+        if self.is_apart or self.stands():
+            return
+        self.is_apart = True
+        lines = [line_of(one) for one in self.found.values() if "fault" not in one]
+        lost = "%s was replaced, removed or changed while this campaign wrote it: " % self.path
+        try:
+            raise NoResults("%sall its results, %d, are in %s; with that as --results the same words go on" % (
+                lost, len(lines), written_apart(self.path, b"".join(lines))))
+        except OSError as fault:
+            raise NoResults("%sits results couldn't be written elsewhere, %s" % (lost, fault)) from None
+
+    def stands(self):
+        """Whether the file of this name is the one that was opened, and has what was read and written, and no more."""
+        here = os.fstat(self.file.fileno())
+        try:
+            return os.path.samestat(here, os.stat(self.path)) and here.st_size == self.length
+        except OSError:
+            return False
+
+
+def settle_all():
+    """The same for all results that this call has opened."""
+    for one in Results.written:
+        one.settle()
+
+
+def line_of(one):
+    return json.dumps(one, sort_keys=True).encode("ascii") + b"\n"
+
+
+def opened(path):
+    """The file of this path, which is made where it isn't there, opened to be written at its end, and locked."""
+    while True:
+        file = open(path, "ab", buffering=0)
+        try:
+            fcntl.flock(file, fcntl.LOCK_EX | fcntl.LOCK_NB)
+            if os.path.samestat(os.stat(path), os.fstat(file.fileno())):
+                return file
+        except BlockingIOError:
+            file.close()
+            raise NoResults("another campaign writes %s" % path) from None
+        except FileNotFoundError:
+            pass
+        # it was replaced or removed before it was locked
+        file.close()
+
+
+def written_apart(path, data):
+    """The path of a new file, which has these bytes: beside the one of this path, or where its folder takes none, among those for the moment."""
+    folder, name = os.path.split(os.path.abspath(path))
+    beside = os.path.join(folder, name[:outputs.KEPT_OF_NAME] + ".kept")
+    try:
+        return written_anew(beside, data)
+    except OSError:
+        return written_anew(os.path.join(tempfile.gettempdir(), os.path.basename(beside)), data)
+
+
+def written_anew(path, data):
+    """The path of a new file that has these bytes; a number stands behind it where something has this name. What can't have all has none."""
+    for number in itertools.count(1):
+        place = path if number == 1 else "%s-%d" % (path, number)
+        try:
+            file = os.open(place, os.O_WRONLY | os.O_CREAT | os.O_EXCL, 0o666)
+        except FileExistsError:
+            continue
+        try:
+            outputs.write_whole(file, data)
+            return place
+        except OSError:
+            os.unlink(place)
+            raise
+        finally:
+            os.close(file)

@@ -150,11 +150,19 @@ def heed_signals():
     for number in (signal.SIGTERM, signal.SIGHUP):
         if signal.getsignal(number) == signal.SIG_DFL:
             signal.signal(number, stop)
+    # a tool begins so, by the part of `signal` that reads no other module: an interrupt while it reads its own would be told in full
+    if signal.getsignal(signal.SIGINT) == signal.SIG_DFL:
+        signal.signal(signal.SIGINT, signal.default_int_handler)
 
 
 def forsake_output():
     """Has what is left for standard output go nowhere: nobody takes it."""
     os.dup2(os.open(os.devnull, os.O_WRONLY), 1)
+
+
+def note(words):
+    """Tells in one line what is to be known beside the tool's answer."""
+    print(printable("%s: %s" % (os.path.basename(sys.argv[0]).removeprefix("tso-"), words), kept=""), file=sys.stderr)
 
 
 def tell(name, why):

@@ -1,6 +1,7 @@
 """The tests that words of a command line name, in this project's form; and of a text that is no test, its place and why it is none."""
 import os
 import re
+import stat
 import sys
 from dataclasses import dataclass
 
@@ -23,6 +24,10 @@ ENDING = ".litmus"
 
 # A file has at most so many bytes: tests for many hours.
 MOST_BYTES = 2 ** 28
+
+
+# The lists whose words are gone through now.
+OPEN_LISTS = []
 
 
 class NoTests(Exception):
@@ -53,17 +58,14 @@ def coming_in(words):
     return (source_of(path, line, text) for path in paths for line, text in pieces_of(content(path)))
 
 
-def paths_in(word, lists=()):
+def paths_in(word):
     """Paths: of a file; -, for standard input; of all files *.litmus below a folder; or of what a list names, such a word a line, where
-    the word is @LIST. `lists` are those that this word stands in."""
+    the word is @LIST. What a folder or a list has beside files, as a pipe that nobody writes, is passed over with a line."""
     if word == "-":
         yield word
     elif word.startswith("@"):
-        path = os.path.realpath(word[1:])
-        if path in lists:
-            raise NoTests("%s names itself" % word)
         for inner in words_of_list(word[1:]):
-            yield from paths_in(inner, (*lists, path))
+            yield from paths_in(inner)
     elif os.path.isdir(word):
         yield from files_below(word)
     else:
@@ -90,25 +92,48 @@ def files_in(word):
 
 
 def words_of_list(path):
-    """The words of a list, a line each. Its paths begin where it stands."""
+    """The words of a list, a line each. Its paths begin where it stands. While they are gone through, the list can't be one of them."""
+    place = os.path.realpath(path)
+    if place in OPEN_LISTS:
+        raise NoTests("@%s names itself" % path)
     lines = inputs.text(path, "utf-8", "surrogateescape").split("\n")
     lines = [line.strip() for line in lines if line.strip() and not line.startswith("#")]
-    if not lines or "\0" in "".join(lines):
-        raise NoTests("@%s names no file" % path)
     folder = os.path.dirname(path)
-    for line in lines:
-        yield "@" + os.path.join(folder, line[1:]) if line.startswith("@") else line if line == "-" else os.path.join(folder, line)
+    words = ["@" + os.path.join(folder, line[1:]) if line.startswith("@") else line if line == "-" else os.path.join(folder, line)
+             for line in lines if "\0" not in line]
+    words = [word for word in words if word == "-" or word.startswith("@") or can_be_read(word)]
+    if not words or "\0" in "".join(lines):
+        raise NoTests("@%s names no file" % path)
+    OPEN_LISTS.append(place)
+    try:
+        yield from words
+    finally:
+        OPEN_LISTS.remove(place)
 
 
-def files_below(folder):
-    """All files *.litmus below a folder, in the order of their names."""
+def files_below(folder, endings=(ENDING,)):
+    """All files below a folder whose names end so, in the order of their names."""
     found = []
     for inner, folders, names in os.walk(folder):
         folders.sort()
-        found += [os.path.join(inner, name) for name in sorted(names) if name.endswith(ENDING)]
+        found += [os.path.join(inner, name) for name in sorted(names) if name.endswith(endings)]
+    found = list(filter(can_be_read, found))
     if not found:
-        raise NoTests("%s has no file *.litmus" % folder)
+        raise NoTests("%s has no file %s" % (folder, " or ".join("*" + ending for ending in endings)))
     return found
+
+
+def can_be_read(path):
+    """Whether a path that a folder or a list has is a file or a folder. Another one, as a pipe or a device, is told and passed over: to read
+    it may have no end. What isn't there is told where it's read."""
+    try:
+        mode = os.stat(path).st_mode
+    except OSError:
+        return True
+    if not (stat.S_ISREG(mode) or stat.S_ISDIR(mode)):
+        scripts.note("%s is no file, and is passed over" % path)
+        return False
+    return True
 
 
 def begins_of(text):

@@ -11,6 +11,10 @@ OF_LINE = ("test", "command", "program", "model", "protocol", "bus", "depth", "s
 OF_NUMBER = ("core", "count", "value", "least", "greatest", "runs")
 COLUMNS = OF_LINE + OF_NUMBER
 
+# A spreadsheet takes a cell that begins so for a formula, in quotes too; a ' before it has it be a text. One that begins with ' already has
+# one more, so that each text is read back.
+FORMULA = re.compile(r"'*[=+@-]")
+
 # A test that ends at once.
 SMALLEST = "X86 smallest\n{ }\n P0 ;\n MFENCE ;\n"
 
@@ -26,9 +30,19 @@ def table_of(command, lines, program):
     writer.writerow(COLUMNS)
     for line in lines:
         about = dict(about_row(command, line), **machine_of(line, usual))
-        told = [about.get(name) for name in OF_LINE]
+        told = [cell_of(about.get(name)) for name in OF_LINE]
         writer.writerows(told + [numbers.get(name) for name in OF_NUMBER] for numbers in numbers_of(line.members) or [{}])
     return text.getvalue()
+
+
+def cell_of(value):
+    """What the cell of a text, a number or None has: a text that would be a formula has a ' before it."""
+    return "'" + value if isinstance(value, str) and FORMULA.match(value) else value
+
+
+def text_of(cell):
+    """The text that a cell has."""
+    return cell[1:] if cell.startswith("'") and FORMULA.match(cell) else cell
 
 
 def is_table(data):
@@ -55,9 +69,8 @@ def usual_machine(program):
 
 def numbers_of(members):
     """The numbers of a row, each as columns."""
-    if "cores" in members:
-        return [{"core": core, "count": name, "value": count["sum"], "least": count["least"], "greatest": count["greatest"],
-                 "runs": members["ended"]} for core, counts in enumerate(members["cores"] or []) for name, count in counts.items()]
-    runs = sum(members["states"].values()) if isinstance(members.get("states"), dict) else None
+    of_cores = [{"core": core, "count": name, "value": count["sum"], "least": count["least"], "greatest": count["greatest"],
+                 "runs": members["ended"]} for core, counts in enumerate(members.get("cores") or []) for name, count in counts.items()]
+    runs = sum(members["states"].values()) if isinstance(members.get("states"), dict) else members.get("ended")
     found = {name: members[name] for name in OF_ROW if members.get(name) is not None}
-    return [{"count": name, "value": len(value) if name == "states" else value, "runs": runs} for name, value in found.items()]
+    return of_cores + [{"count": name, "value": len(value) if name == "states" else value, "runs": runs} for name, value in found.items()]

@@ -162,7 +162,7 @@ def line_of(row, parts, verdict, theory):
     if faults:
         return line_of_row(row, FAULT, {"expected": due, "why": faults})
     if "cores" in parts[0]:
-        line = line_of_row(row, UNJUDGED, tasks.merged_counts(parts))
+        line = counts_line(row, tasks.merged_counts(parts))
     elif row.depth is None:
         line = sweep_line(row, tasks.merged(parts), due)
     elif "--model" in row.words:
@@ -187,6 +187,12 @@ def in_names_of_file(text, line):
         elif key == "why":
             line.members[key] = [renamed(why) for why in found]
     return line
+
+
+def counts_line(row, total):
+    """What caches did is of the runs that ended alone: where not all did, that is told, and where none did, the row is open."""
+    why = ["ended %d of %d" % (total["ended"], total["ended"] + total["unfinished"])] if total["unfinished"] else []
+    return line_of_row(row, UNJUDGED if total["ended"] else OPEN, dict(total, why=why) if why else total)
 
 
 def sweep_line(row, total, due):

@@ -14,8 +14,12 @@ FOR_EVER = "touch '%s'; sleep infinity & wait"
 # A test that theory takes days for: each load reads one of two words, and no choice of these is so.
 MANY_SOURCES = "X86 Sources\n{ }\n P0 | P1 ;\n MOV [x],$1 | MOV EAX,[x] ;\n%sexists (x=9)\n" % (31 * " | MOV EAX,[x] ;\n")
 
+# The tools that are Python's.
+READING = ("campaign", "compare", "cycles", "fences", "graph", "hardware", "import", "plot", "theory", "workload")
+
 SIGNALS = (signal.SIGINT, signal.SIGTERM, signal.SIGHUP, signal.SIGKILL)
-STATUSES = {signal.SIGINT: (INTERRUPTED,), signal.SIGTERM: (143,), signal.SIGHUP: (129,), signal.SIGKILL: (-9,)}
+# by an interrupt before it heeds it a tool ends as any command
+STATUSES = {signal.SIGINT: (INTERRUPTED, -signal.SIGINT), signal.SIGTERM: (143,), signal.SIGHUP: (129,), signal.SIGKILL: (-9,)}
 
 
 def ended(calls, running, number, send=os.kill):
@@ -128,6 +132,18 @@ def picture_ends(number):
     return judge
 
 
+def reading_ends(tool):
+    """A tool that is interrupted while it reads the modules that it needs, of which one takes long."""
+    def judge(calls):
+        mark = calls.path("begun")
+        calls.write("modules/re.py", "import time\nopen(%r, 'w').close()\ntime.sleep(%d)\n" % (mark, SECONDS))
+        running = calls.begun(tool, "--help", PYTHONPATH=calls.path("modules"))
+        if not waited_for(lambda: os.path.exists(mark)):
+            return "doesn't read the module"
+        return ended(calls, running, signal.SIGINT)
+    return judge
+
+
 def limited_call(calls):
     """A program that takes longer than a task may ends with all that it has started, and the campaign goes on."""
     program = calls.stand_in("program", 'case "$*" in --program|--version) exit 2;; esac\nsleep infinity & wait')
@@ -159,6 +175,7 @@ ROWS += [("theory of a campaign all of which gets " + name_of(number), theory_en
 ROWS += [("theory of a campaign one of whose processes is killed", theory_without_one)]
 ROWS += [("a picture that is ended by " + name_of(number), picture_ends(number)) for number in SIGNALS]
 ROWS += [("a task that takes too long", limited_call)]
+ROWS += [("%s that is interrupted while it reads its modules" % tool, reading_ends(tool)) for tool in READING]
 if shutil.which(os.environ.get("CC") or "cc"):
     ROWS += [("a compiler for the processor that is ended by " + name_of(number), compiler_ends(number)) for number in SIGNALS]
     ROWS += [("runs on the processor that are ended by " + name_of(number), runs_end(number)) for number in SIGNALS]

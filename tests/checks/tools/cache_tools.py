@@ -2,15 +2,18 @@
 import csv
 import os
 import re
+import shlex
 import subprocess
 import sys
 import tempfile
 import xml.etree.ElementTree
 
 import litmus
+import means
+import tables
 from scripts import COULD_NOT, SAME
 
-from .tool_runs import TOOLS, described, script, tool, write
+from .tool_runs import TOOLS, described, tool, write
 
 KINDS = ("false-sharing", "ping-pong", "migratory", "producer-consumer", "read-mostly")
 PROTOCOLS, SHAPES = ("msi", "mesi", "moesi", "mosi"), ("1x2x1", "1x2x4")
@@ -79,6 +82,8 @@ def judge_pictures(program, tally, room):
     if python is None:
         print("not tried: pictures by matplotlib (Debian: python3-matplotlib)")
         return
+    judge_gaps(python, tally, room)
+    judge_legends(python, tally, room)
     unit = ", mean of 10 tests"
     for name, words, named in (
             ("bars", ["--bars", "misses"], ["misses a run, all cores" + unit, "shape of the caches (sets x ways x words)", *PROTOCOLS, *SHAPES]),
@@ -108,24 +113,127 @@ def plotted(python, *words):
 
 def judge_means(table, tally):
     """What bars stand for is the mean of the tests' sums over cores and runs."""
-    plot = script("plot")
-    lines = plot.chosen(plot.read_table(table), "misses", [("words", ["4"])])
-    found, tests = plot.values_by(lines, ("shape", "protocol"))
+    rows = means.read_table(table)
+    asked = means.Asked(rows, "misses", ("shape", "protocol"), [("words", ["4"])])
     wanted = {}
-    for line in lines:
-        place = line["shape"], line["protocol"]
-        wanted[place] = wanted.get(place, 0) + int(line["value"]) / SEEDS / 10
-    same = tests == 10 and found.keys() == wanted.keys() and all(abs(found[place] - wanted[place]) < 1e-9 for place in wanted)
-    tally.add("what bars stand for", None if same else "%d tests, %s, not %s" % (tests, found, wanted))
-    tally.add("numbers by their size", None if plot.in_order(["10", "2", "1x2x10", "1x2x4"]) == ["1x2x4", "1x2x10", "2", "10"]
-              and plot.in_order(["msi", "mesi", "msi"]) == ["msi", "mesi"] else "another order")
+    for row in asked.rows:
+        place = row.about["shape"], row.about["protocol"]
+        misses = sum(value for (core, count), (value, _) in row.numbers.items() if core and count == "misses")
+        wanted[place] = wanted.get(place, 0) + misses / SEEDS / 10
+    same = len(asked.tests) == 10 and asked.values.keys() == wanted.keys() and not asked.gaps and all(
+        abs(asked.values[place] - wanted[place]) < 1e-9 for place in wanted)
+    tally.add("what bars stand for", None if same else "%s, %s, not %s" % (asked.tests, asked.values, wanted))
+    tally.add("numbers by their size", None if means.in_order(["10", "2", "1x2x10", "1x2x4"]) == ["1x2x4", "1x2x10", "2", "10"]
+              and means.in_order(["msi", "mesi", "msi"]) == ["msi", "mesi"] else "another order")
+
+
+def table_of(numbers):
+    """A campaign's table of tests of one core: for each of these the test, its machine, and misses in one run; None where no run ended. Of ten
+    runs eight ended where the test is named Slow."""
+    lines = [",".join(tables.COLUMNS)]
+    for test, protocol, words, misses in numbers:
+        about = "%s,counts,,,%s,atomic,4,1,2,%d,'--protocol %s --words %d,unjudged," % (test, protocol, words, protocol, words)
+        ended = 0 if misses is None else 8 if test == "Slow" else 10
+        lines += [] if misses is None else ["%s0,misses,%d,,,%d" % (about, misses * ended, ended)]
+        lines += ["%s,unfinished,%d,,,%d" % (about, 10 - ended, ended), "%s,ended,%d,,,%d" % (about, ended, ended)]
+    return "".join(line + "\n" for line in lines)
+
+
+# Tables and words for them, with what the axis says, what is said on standard error, and the heights of bars in their order.
+TWO = [("A", "msi", 1, 2), ("B", "msi", 1, 4), ("C", "msi", 1, 100), ("A", "mesi", 1, 3), ("B", "mesi", 1, 5), ("C", "mesi", 1, None)]
+GAPS = (
+    ("a mean of the tests that ended under both", TWO, ["--bars"], "misses a run, all cores, mean of 2 tests that ended under both",
+     ["C --protocol mesi --words 1: ended 0 of 10", "left out of the means, since they don't have a number everywhere: C"], [3, 4]),
+    ("a mean of the tests that have a row everywhere", TWO[:-1], ["--bars"], "misses a run, all cores, mean of 2 tests that have a number everywhere",
+     ["left out of the means, since they don't have a number everywhere: C"], [3, 4]),
+    ("a machine of which there is no number", [*TWO[:2], *((test, "mesi", 1, None) for test in "AB")], ["--bars"],
+     "misses a run, all cores, mean of 2 tests", ["A --protocol mesi --words 1: ended 0 of 10", "B --protocol mesi --words 1: ended 0 of 10",
+                                                  "no number of misses at 1x2x1 mesi: a gap, with a mark"], [3]),
+    ("a machine that has no row", [("A", "msi", 1, 2), ("A", "msi", 4, 1), ("A", "mesi", 1, 3)], ["--line", "--against", "words"],
+     "misses a run, all cores", ["no number of misses at 4 mesi: a gap, with a mark"], None),
+    ("a field that has no number", [*TWO], ["--heat"], "misses a run, all cores",
+     ["C --protocol mesi --words 1: ended 0 of 10", "no number of misses at C mesi 1x2x1: a gap, with a mark"], None),
+    ("runs that didn't all end", [("A", "msi", 1, 2), ("Slow", "msi", 1, 2)], ["--bars"], "misses a run, all cores, mean of 2 tests",
+     ["Slow --protocol msi --words 1: ended 8 of 10"], [2]),
+)
+
+
+def judge_gaps(python, tally, room):
+    """A number that isn't there is a gap with a mark, and a line; means are over the tests that all bars have, and say so."""
+    table = os.path.join(room, "gaps.csv")
+    for name, numbers, words, unit, told, heights in GAPS:
+        write(table, table_of(numbers))
+        path = os.path.join(room, name.replace(" ", "-") + ".svg")
+        done = plotted(python, table, "-o", path, words[0], "misses", *words[1:])
+        said = sorted(line.removeprefix("plot: ") for line in done.stderr.splitlines())
+        tally.add(name, None if done.returncode == SAME and said == sorted(told) else described(done))
+        drawn = Drawn(path)
+        gaps = sum(": a gap" in line for line in told)
+        named = unit in " ".join(drawn.texts) and ("no number" in " ".join(drawn.texts)) == (gaps > 0) and drawn.texts.count("\u00d7") == gaps
+        tally.add("what it shows: " + name, None if named else str(drawn.texts))
+        if heights:
+            shares = [height / max(drawn.bars) for height in drawn.bars]
+            same = len(shares) == len(heights) and all(abs(share - height / max(heights)) < 1e-3 for share, height in zip(shares, heights))
+            tally.add("its bars: " + name, None if same else str(drawn.bars))
+
+
+class Drawn:
+    """What a picture has: its texts, its bars' heights and colours from the left, and how far its legend and the whole reach."""
+
+    def __init__(self, path):
+        root = xml.etree.ElementTree.parse(path).getroot()
+        self.texts = ["".join(part.itertext()).strip() for part in root.iter() if part.tag.endswith("}text")]
+        across, high = map(float, root.get("viewBox").split()[2:])
+        ids = {part.get("id"): part for part in root.iter() if part.get("id")}
+        bars = [box(part) for name, part in ids.items() if name.startswith("patch_") and part[0].get("clip-path") and part[0].get("d")]
+        bars = sorted(bar for bar in bars if "fill: #" in bar[-1])
+        self.bars, self.colours = [bar[3] - bar[1] for bar in bars], [re.search(r"fill: (#\w+)", bar[-1]).group(1) for bar in bars]
+        legend = ids.get("legend_1")
+        corner = box(next(part for part in legend.iter() if (part.get("id") or "").startswith("patch_"))) if legend is not None else None
+        self.has_legend = corner is not None and 0 <= corner[0] <= corner[2] <= across and 0 <= corner[1] <= corner[3] <= high
+
+
+def box(part):
+    """The box of the first path of a part of a picture, and its style."""
+    numbers = list(map(float, re.findall(r"-?\d+(?:\.\d+)?", part[0].get("d"))))
+    return min(numbers[::2]), min(numbers[1::2]), max(numbers[::2]), max(numbers[1::2]), part[0].get("style")
+
+
+def judge_legends(python, tally, room):
+    """A protocol has one colour in every picture, a legend is whole, and more styles than eyes tell apart are refused with a cure that is
+    accepted."""
+    table, path, colours = os.path.join(room, "legends.csv"), os.path.join(room, "legends.svg"), {}
+    for protocols in (["mosi"], ["mesi", "msi"], ["msi", "mesi", "moesi", "mosi"]):
+        write(table, table_of([("A", protocol, 1, 1) for protocol in protocols]))
+        done = plotted(python, table, "-o", path, "--bars", "misses")
+        for protocol, colour in zip(protocols, Drawn(path).colours):
+            colours.setdefault(protocol, set()).add(colour)
+    one_each = len(colours) == 4 == len(set().union(*colours.values()))
+    tally.add("one colour for one protocol", None if done.returncode == SAME and one_each else str(colours))
+    names = ["_a test of a name that is long, and of number %d, which costs $%d$" % (number, number) for number in range(12)]
+    write(table, table_of([('"%s"' % name, "msi", words, 1) for name in names for words in (1, 4)]))
+    for kind in ("--bars", "--line"):
+        done = plotted(python, table, "-o", path, kind, "misses", "--against", "words", "--legend", "test")
+        tally.add("more styles than eight", None if done.returncode == COULD_NOT and "plot: a legend tells 8 of test apart, and there are 12: " in
+                  done.stderr else described(done))
+    names = ["_test-%d-of-a-name-that-is-long-and-costs-$%d$-%s" % (number, number, "w" * 40) for number in range(12)]
+    write(table, table_of([(name, "msi", words, 1) for name in names for words in (1, 4)]))
+    done = plotted(python, table, "-o", path, "--line", "misses", "--against", "words", "--legend", "test")
+    cure = shlex.split(re.search(r"choose some, as (--where .*), or draw all by --heat", done.stderr).group(1))
+    for words in (["--line", "misses", "--against", "words", "--legend", "test", *cure], ["--heat", "misses"]):
+        done = plotted(python, table, "-o", path, *words)
+        tally.add("the cure of too many styles", None if done.returncode == SAME and not done.stderr else described(done))
+        drawn = Drawn(path)
+        count = sum(name in text for name in names for text in drawn.texts)
+        wanted = drawn.has_legend and count == 8 if words[0] == "--line" else count == 12
+        tally.add("a legend that is whole", None if wanted else str(drawn.texts))
 
 
 def judge_refusals(table, tally, room):
     """What can't be drawn is said in one line."""
     path, other = os.path.join(room, "none.svg"), write(os.path.join(room, "other.svg"), "mine\n")
     # by the standard library alone there is no matplotlib
-    for words, why in (([table, "-o", path, "--bars", "nothing"], r"plot: the table has no count nothing; it has flushes, .*\n"),
+    for words, why in (([table, "-o", path, "--bars", "nothing"], r"plot: the table has no count nothing; it has ended, flushes, .*\n"),
                        ([table, "-o", path, "--line", "misses"], r"plot: the lines differ in words: choose by .*\n"),
                        ([table, "-o", path, "--bars", "misses", "--where", "bus=split"], r"plot: no line has what --where says\n"),
                        ([other, "-o", path, "--bars", "misses"], r"plot: .*other\.svg is no table of a campaign\n"),
