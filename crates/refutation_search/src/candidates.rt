@@ -124,7 +124,9 @@ fn add_read_questions(
         }
     }
     for x in 0..setting.locations {
-        candidates.add(setting, look, state, Question::ComesLast(x));
+        if setting.writes_to.next(x, 0) != NONE {
+            candidates.add(setting, look, state, Question::ComesLast(x));
+        }
     }
 }
 
