@@ -2,12 +2,12 @@
 
 use crate::facts::{Fact, NO_FACT, Question};
 use crate::lemmas::is_known;
+use crate::lists::{List, NONE};
 use crate::looking::Look;
 use crate::parts::{PartKind, add_cases};
 use crate::questions::{add_answers, is_noted};
 use crate::setting::{COUNTERS, LOCKED, Setting};
 use crate::state::{Group, State};
-use reason_search::lists::{List, NONE};
 use std::alloc::Global;
 
 /// How many answers of a question aren't noted as closed.

@@ -1,8 +1,7 @@
 //! The whole search: runs by chance for an execution, most of them only where a short search hasn't closed what the claim gives; depth first
 //! for a refutation, again and again with what was learnt, and a few times more for a shorter one. Where that takes too long, the search that
-//! learns from each branch; and the search over sources and orders alone.
+//! learns from each branch.
 
-use crate::borrowing::take_over;
 use crate::first_state::first_state;
 use crate::hunt::{Find, Hunt, hunt_for, make_hunt};
 use crate::learner::Learner;
@@ -13,7 +12,6 @@ use crate::runs::find_run;
 use crate::setting::{Setting, make_setting};
 use crate::state::State;
 use reading_tables::tables::Problem;
-use reason_search::{has_tree, make_guide_within, proposed_order};
 use refutation_laws::Model;
 use std::alloc::Global;
 use tso_terms::{Execution, NoMemory};
@@ -35,7 +33,7 @@ const MOST_TRIES: usize = 4;
 /// A refutation that has no more lines is short.
 const FEW_LINES: usize = 2;
 
-/// A refutation that has more lines may be longer than one over sources and orders alone.
+/// A refutation that has more lines may be longer than one that is learnt.
 const MANY_LINES: usize = 40;
 
 /// How many steps runs by chance take for each case that may be looked at, and in all.
@@ -45,12 +43,6 @@ const MOST_STEPS: usize = 2_000_000;
 
 /// How many of these steps they take before a short search has its turn.
 const FEW_STEPS: usize = 20_000;
-
-/// How much work the search over sources and orders alone may be, where each case costs the cube of the number of events; and how many
-/// cases it looks at only for a shorter refutation.
-const MOST_WORK: usize = 800_000_000;
-
-const FEW_CASES: usize = 4_000;
 
 /// Into how many parts looks are divided. After the first part the search that learns has its turn, and only what was found in that part
 /// is made shorter.
@@ -157,32 +149,6 @@ fn ask_back<'t>(
     }
 }
 
-/// What the search over sources and orders alone proposes.
-fn borrow<'t>(
-    alloc: Global,
-    setting: &Setting<'t>,
-    problem: &Problem<'t>,
-    model: Model,
-    root: &State,
-    limit: usize,
-) -> Result<Proposed<'t>, NoMemory> {
-    let most = setting.affordable(MOST_WORK, 3);
-    let cases = limit.min(most);
-    let mut guide = make_guide_within(alloc, problem.test, &problem.events, model, cases)?;
-    if let Some(execution) = proposed_order(alloc, &guide)? {
-        return Ok(Proposed::Execution(execution));
-    }
-    if !has_tree(&guide) {
-        return Ok(Proposed::Nothing);
-    }
-    let mut hunt = make_hunt(alloc, setting, root.copy(setting), 0);
-    let node = take_over(alloc, setting, &mut guide, &mut hunt.trees)?;
-    if hunt.is_refused() {
-        return Err(NoMemory);
-    }
-    refutation(alloc, setting, problem, &hunt, node)
-}
-
 /// The one that has fewer lines.
 fn shorter<'t>(best: Proposal<'t>, other: Proposed<'t>) -> Proposal<'t> {
     match other {
@@ -202,7 +168,6 @@ fn shorten<'t>(
     alloc: Global,
     setting: &Setting<'t>,
     problem: &Problem<'t>,
-    model: Model,
     hunt: &Hunt,
     first: Proposal<'t>,
     limit: usize,
@@ -218,10 +183,6 @@ fn shorten<'t>(
         let other = try_twist(alloc, setting, problem, root, twist, cases)?;
         best = shorter(best, other);
     }
-    if best.lines > MANY_LINES {
-        let other = borrow(alloc, setting, problem, model, root, limit.min(FEW_CASES))?;
-        best = shorter(best, other);
-    }
     Ok(best)
 }
 
@@ -230,27 +191,24 @@ fn shortened<'t>(
     alloc: Global,
     setting: &Setting<'t>,
     problem: &Problem<'t>,
-    model: Model,
     hunt: &Hunt,
     found: Proposed<'t>,
     limit: usize,
 ) -> Result<Proposed<'t>, NoMemory> {
     match found {
         Proposed::Refutation(first) if hunt.look.made <= hunt.looks / FIRST_PART => {
-            let best = shorten(alloc, setting, problem, model, hunt, first, limit)?;
+            let best = shorten(alloc, setting, problem, hunt, first, limit)?;
             Ok(Proposed::Refutation(best))
         }
         other => Ok(other),
     }
 }
 
-/// Searches from this branch for a part of the looks, then back from what is told, then with what is learnt from each branch, and then over sources and
-/// orders alone.
+/// Searches from this branch for a part of the looks, then back from what is told, then with what is learnt from each branch.
 fn propose_reason<'t>(
     alloc: Global,
     setting: &Setting<'t>,
     problem: &Problem<'t>,
-    model: Model,
     root: State,
     limit: usize,
 ) -> Result<Proposed<'t>, NoMemory> {
@@ -260,11 +218,10 @@ fn propose_reason<'t>(
     let first = hunt_on(alloc, setting, problem, &mut hunt, limit)?;
     hunt.looks = looks;
     if !matches!(first, Proposed::Nothing) {
-        return shortened(alloc, setting, problem, model, &hunt, first, limit);
+        return shortened(alloc, setting, problem, &hunt, first, limit);
     }
     let back = ask_back(alloc, setting, problem, &hunt.root, limit)?;
-    let found = or_learnt(alloc, setting, problem, &mut hunt, back, limit)?;
-    or_borrowed(alloc, setting, problem, model, &hunt.root, found, limit)
+    or_learnt(alloc, setting, problem, &mut hunt, back, limit)
 }
 
 /// What was found, or a shorter one that is learnt, or any where nothing was found.
@@ -282,26 +239,6 @@ fn or_learnt<'t>(
             Ok(Proposed::Refutation(shorter(best, other)))
         }
         Proposed::Nothing => learn_long(alloc, setting, problem, hunt, limit),
-        other => Ok(other),
-    }
-}
-
-/// What was found, or a shorter one over sources and orders alone, or any over these where nothing was found.
-fn or_borrowed<'t>(
-    alloc: Global,
-    setting: &Setting<'t>,
-    problem: &Problem<'t>,
-    model: Model,
-    root: &State,
-    found: Proposed<'t>,
-    limit: usize,
-) -> Result<Proposed<'t>, NoMemory> {
-    match found {
-        Proposed::Refutation(best) if best.lines > MANY_LINES => {
-            let other = borrow(alloc, setting, problem, model, root, limit.min(FEW_CASES))?;
-            Ok(Proposed::Refutation(shorter(best, other)))
-        }
-        Proposed::Nothing => borrow(alloc, setting, problem, model, root, limit),
         other => Ok(other),
     }
 }
@@ -387,5 +324,5 @@ pub fn propose_answer<'t>(
     if let Some(execution) = find_order(alloc, &setting, &root, limit)? {
         return Ok(Proposed::Execution(execution));
     }
-    propose_reason(alloc, &setting, problem, model, root, limit)
+    propose_reason(alloc, &setting, problem, root, limit)
 }
