@@ -35,6 +35,7 @@ pub mod searching;
 pub mod sets;
 pub mod setting;
 pub mod settle;
+pub mod soon;
 pub mod state;
 pub mod told;
 pub mod trees;

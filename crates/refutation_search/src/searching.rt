@@ -1,15 +1,14 @@
-//! The whole search: runs by chance for an execution, most of them only where a short search hasn't closed what the claim gives; depth first
-//! for a refutation, again and again with what was learnt, and a few times more for a shorter one. Where that takes too long, the search that
-//! learns from each branch.
+//! The whole search: what is soon found; depth first for a refutation, again and again with what was learnt, and a few times more for a
+//! shorter one. Where that takes too long, many runs by chance for an execution, and then the search that learns from each branch.
 
 use crate::first_state::first_state;
 use crate::hunt::{Find, Hunt, hunt_for, make_hunt};
 use crate::learner::Learner;
 use crate::learnt_search::search_learning;
-use crate::ordering::make_order;
 use crate::proposal::{Proposal, propose};
 use crate::runs::find_run;
 use crate::setting::{Setting, make_setting};
+use crate::soon::{Soon, find_soon, looks_to_learn, met_order, open_order, steps_for};
 use crate::state::State;
 use reading_tables::tables::Problem;
 use refutation_laws::Model;
@@ -36,26 +35,12 @@ const FEW_LINES: usize = 2;
 /// A refutation that has more lines may be longer than one that is learnt.
 const MANY_LINES: usize = 40;
 
-/// How many steps runs by chance take for each case that may be looked at, and in all.
-const STEPS_FOR_CASE: usize = 20_000;
-
-const MOST_STEPS: usize = 2_000_000;
-
-/// How many of these steps they take before a short search has its turn.
-const FEW_STEPS: usize = 20_000;
-
 /// Into how many parts looks are divided. After the first part the search that learns has its turn, and only what was found in that part
 /// is made shorter.
 const FIRST_PART: usize = 8;
 
 /// Where events are so many times as many as these, asking back makes fewer looks, by the square.
 const FEW_EVENTS: usize = 64;
-
-/// How many looks the search that learns may make for each case; and how much work they may be, where each one costs the fifth power of
-/// the number of events at worst.
-const LOOKS_FOR_CASE: usize = 3;
-
-const MOST_LEARNING: usize = 70_000_000_000_000;
 
 /// Searches for so many cases, with pauses, after each of which it begins anew with what it learnt.
 fn hunt_again(setting: &Setting<'_>, hunt: &mut Hunt, limit: usize) -> Find {
@@ -72,11 +57,11 @@ fn hunt_again(setting: &Setting<'_>, hunt: &mut Hunt, limit: usize) -> Find {
     Find::Late
 }
 
-/// The order of an execution from the branch on which a search found no question left.
-fn open_order<'t>(setting: &Setting<'t>, hunt: &Hunt) -> Result<Proposed<'t>, NoMemory> {
-    match hunt.levels.get(hunt.frames.len()) {
-        Some(state) => Ok(Proposed::Execution(make_order(setting, state)?)),
-        None => Ok(Proposed::Nothing),
+/// What is proposed where a search came to an order, or to none.
+fn execution<'t>(order: Option<Execution>) -> Proposed<'t> {
+    match order {
+        Some(order) => Proposed::Execution(order),
+        None => Proposed::Nothing,
     }
 }
 
@@ -108,7 +93,7 @@ fn hunt_on<'t>(
     }
     match found {
         Find::Refuted(node) => refutation(alloc, setting, problem, hunt, node),
-        Find::Open => open_order(setting, hunt),
+        Find::Open => Ok(execution(open_order(setting, problem, hunt)?)),
         Find::Late => Ok(Proposed::Nothing),
     }
 }
@@ -204,13 +189,15 @@ fn shortened<'t>(
     }
 }
 
-/// Searches from this branch for a part of the looks, then back from what is told, then with what is learnt from each branch.
+/// Searches from this branch for a part of the looks, then by many runs of chance if it may be met, then back from what is told, and then
+/// with what is learnt from each branch.
 fn propose_reason<'t>(
     alloc: Global,
     setting: &Setting<'t>,
     problem: &Problem<'t>,
     root: State,
     limit: usize,
+    may_be_met: bool,
 ) -> Result<Proposed<'t>, NoMemory> {
     let mut hunt = make_hunt(alloc, setting, root, limit);
     let looks = hunt.looks;
@@ -219,6 +206,11 @@ fn propose_reason<'t>(
     hunt.looks = looks;
     if !matches!(first, Proposed::Nothing) {
         return shortened(alloc, setting, problem, &hunt, first, limit);
+    }
+    if may_be_met {
+        if let Some(order) = find_run(alloc, setting, &hunt.root, steps_for(limit))? {
+            return Ok(Proposed::Execution(order));
+        }
     }
     let back = ask_back(alloc, setting, problem, &hunt.root, limit)?;
     or_learnt(alloc, setting, problem, &mut hunt, back, limit)
@@ -243,13 +235,6 @@ fn or_learnt<'t>(
     }
 }
 
-/// How many looks the search that learns may make.
-fn looks_to_learn(setting: &Setting<'_>, limit: usize) -> usize {
-    limit
-        .saturating_mul(LOOKS_FOR_CASE)
-        .min(setting.affordable(MOST_LEARNING, 5))
-}
-
 /// Learns, as long as looks are left: what is proposed by then.
 fn learn_long<'t>(
     alloc: Global,
@@ -267,40 +252,9 @@ fn learn_long<'t>(
     }
     match found {
         Find::Refuted(node) => refutation(alloc, setting, problem, hunt, node),
-        Find::Open => Ok(Proposed::Execution(make_order(setting, &learner.now)?)),
+        Find::Open => Ok(execution(met_order(setting, problem, &learner.now)?)),
         Find::Late => Ok(Proposed::Nothing),
     }
-}
-
-/// Whether a short search from this branch closes it.
-fn is_soon_closed(alloc: Global, setting: &Setting<'_>, root: &State) -> Result<bool, NoMemory> {
-    let mut hunt = make_hunt(alloc, setting, root.copy(setting), 1);
-    hunt.looks = hunt.looks.min(hunt.most_looks);
-    let found = hunt_for(setting, &mut hunt, 1);
-    if hunt.is_refused() {
-        return Err(NoMemory);
-    }
-    Ok(matches!(found, Find::Refuted(_)))
-}
-
-/// The order of a run at whose end what is asked is true, if one is found. None is looked for any longer once a short search has closed the
-/// branch.
-fn find_order(
-    alloc: Global,
-    setting: &Setting<'_>,
-    root: &State,
-    limit: usize,
-) -> Result<Option<Execution>, NoMemory> {
-    let steps = limit.saturating_mul(STEPS_FOR_CASE).min(MOST_STEPS);
-    let few = steps.min(FEW_STEPS);
-    let first = find_run(alloc, setting, root, few)?;
-    if first.is_some() | root.is_closed | (few == steps) {
-        return Ok(first);
-    }
-    if is_soon_closed(alloc, setting, root)? {
-        return Ok(None);
-    }
-    find_run(alloc, setting, root, steps)
 }
 
 /// Searches for an execution in which what a test asks is true, or a refutation by lemmas of it, for so many cases: what it proposes, if it
@@ -321,8 +275,10 @@ pub fn propose_answer<'t>(
     if root.is_refused() {
         return Err(NoMemory);
     }
-    if let Some(execution) = find_order(alloc, &setting, &root, limit)? {
-        return Ok(Proposed::Execution(execution));
-    }
-    propose_reason(alloc, &setting, problem, root, limit)
+    let may_be_met = match find_soon(alloc, &setting, problem, &root, limit)? {
+        Soon::Met(order) => return Ok(Proposed::Execution(order)),
+        Soon::Closed => false,
+        Soon::Open => true,
+    };
+    propose_reason(alloc, &setting, problem, root, limit, may_be_met)
 }

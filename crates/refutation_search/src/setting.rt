@@ -118,6 +118,15 @@ impl<'t> Setting<'t> {
         work / cost.max(1)
     }
 
+    /// The model of whose executions the search is.
+    pub fn model(&self) -> Model {
+        if self.is_sequential {
+            Model::Sequential
+        } else {
+            Model::Tso
+        }
+    }
+
     /// The first word of a location.
     pub fn first_word(&self, x: usize) -> u32 {
         match self.terms.at(x) {
