@@ -58,7 +58,6 @@ STAY = {
     "IsOneOf": "a pair among pairs; an event among events",
     "IsPossible": "what choices can leave; what a number can be",
     "Written": "a test as it is written; a write, and what it writes",
-    "cases_of": "the cases of a refutation that are open; those of a proposition",
     "counts": "a machine's counts; what an addition to a counter can find",
     "first_registers": "what registers hold at first",
     "held_in": "in how many states a claim holds; what a register holds",

@@ -5,7 +5,7 @@ use Rattle.found_reasons.proofs.Vocabulary.{in-none, in-first, in-later, and-bot
 use Rattle.found_reasons.proofs.Vocabulary.{are_ordered, may_ask, is_answered, IsFull, IsSound, and-of, is-event, is_unread, is_unordered}
 use Rattle.found_reasons.proofs.Vocabulary.{first_where, first_beside, pair_or, first_pair, question_of, read_or, first_unread}
 use Rattle.found_reasons.proofs.Vocabulary.{next_question, from-not, QuestionOrFull}
-use Rattle.refutations.specs.Trees.{node_of}
+use Rattle.refutations.specs.inner.Trees.{node_of}
 use Rattle.refutations.specs.declared.tree.Node.{Node}
 use Rattle.refutation_laws.specs.declared.known.Pair.{Pair}
 use Rattle.refutations.specs.declared.tree.Node.TheVariants.{ReadsFrom, ComesFirst}

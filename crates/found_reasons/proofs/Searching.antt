@@ -3,9 +3,9 @@ use Rattle.found_reasons.proofs.Vocabulary.{◌≡◌, ◌<◌, ◌≤◌, ◌+�
 use Rattle.found_reasons.proofs.Vocabulary.{length, length_push, length-map, map, Some, None, arith, mul-le, div-lt_iff_lt-mul, refl, sym}
 use Rattle.found_reasons.proofs.Vocabulary.{ap, ◌∙◌, subst, Litmus, Model, events_of, may_ask, is_answered, asked_claim, Fact, facts_of}
 use Rattle.found_reasons.proofs.Vocabulary.{branches_of, Node, known_from, is_node, close, refutes, product, sources_in, all_orders, below}
-use Rattle.found_reasons.proofs.Vocabulary.{still_open_after, counted_as, given_at_first, HasMoreCases, most_cases, node_of, answers_told}
+use Rattle.found_reasons.proofs.Vocabulary.{Option, counted_as, given_at_first, most_cases, node_of, answers_told}
 use Rattle.found_reasons.proofs.Vocabulary.{as_question, as_node, IsBranch, IsCaseStep, AreOpenAfter}
-use Rattle.refutations.specs.Trees as found
+use Rattle.refutations.specs.inner.Trees as found
 use Rattle.refutations.specs.declared.tree.Node as step
 use Rattle.std.specs.Prelude.{Vec}
 use Rattle.std.specs.Global.{Global}
@@ -16,6 +16,13 @@ use Rattle.found_reasons.specs.declared.reason.Step.TheVariants.{Leaf, Question}
 use Rattle.found_reasons.proofs.Weighing.{some-weight, weight, weight-at-first}
 use Rattle.found_reasons.proofs.Answering.{first-branch, none-at-first}
 use Rattle.found_reasons.proofs.Narrowing.{AreBranches, total_of, total-both, are-both, question-branches, question-lighter, question-stands}
+
+-- the branches that are still open after these nodes; none where one of them may not stand
+abbrev pub still_open_after : Model → Litmus → List (List Fact) → List Node → Option (List (List Fact))
+still_open_after model t branches [] = Some branches
+still_open_after model t [] (n ∷ ns) = None
+still_open_after model t (facts ∷ rest) (n ∷ ns) =
+    if is_node model t [] (known_from t facts) n then still_open_after model t (below t facts n ++ rest) ns else None
 
 pub record IsSearch (model : Model) (t : Litmus) (branches : List (List Fact)) (nodes : List Node) : Type 0 where
   pub is_part : still_open_after model t (given_at_first t ∷ []) nodes ≡ Some branches
@@ -103,11 +110,8 @@ module _ (model : Model) (t : Litmus) where
 
     -- as many nodes and further branches as may be, and a branch that is open
     too-many : (limit : ℕ) → 0 < counted_as (length (events_of t)) → limit / counted_as (length (events_of t)) ≤ length nodes + length rest
-        → HasMoreCases model t limit × (limit < most_cases t)
-    too-many limit some late = (
-      record { nodes = nodes; branches = facts ∷ rest; is_part = s.is_part; more = more },
-      let a = more in let b = mul-le all cost most cost all-below (omega arith) in omega (arith, a, b),
-    )
+        → limit < most_cases t
+    too-many limit some late = let a = more in let b = mul-le all cost most cost all-below (omega arith) in omega (arith, a, b)
       where
         cost : ℕ
         cost = counted_as (length (events_of t))
@@ -193,7 +197,7 @@ module _ (model : Model) (t : Litmus) (before after : List (Vec declared.Fact Gl
 
   pub one-too-many : (nodes : List code.Node) (limit : ℕ) → IsSearch model t (branches_of before) (map node_of nodes)
       → 0 < counted_as (length (events_of t)) → limit / counted_as (length (events_of t)) ≤ length nodes + length after
-      → HasMoreCases model t limit × (limit < most_cases t)
+      → limit < most_cases t
   one-too-many nodes limit s some late =
       let told = length-map nodes node_of in
       let open-ones = length-branches after in

@@ -3,7 +3,7 @@ use Rattle.found_reasons.proofs.Vocabulary.{◌≡◌, false, List, ◌++◌, ma
 use Rattle.found_reasons.proofs.Vocabulary.{IsFull, IsSound, Fact, Reading, readings, known_from, may_ask, true, answers_told, as_question}
 use Rattle.found_reasons.proofs.Vocabulary.{as_node, IsBranch, HasNoLeaf, LeafIfAny, IsCaseStep, QuestionOrFull}
 use Rattle.refutation_laws.specs.Refutations as full_node
-use Rattle.refutations.specs.Trees.{node_of}
+use Rattle.refutations.specs.inner.Trees.{node_of}
 use Rattle.refutations.specs.declared.tree.Node.{Node}
 use Rattle.found_reasons.specs.declared.reason.Step.TheVariants.{Leaf, Question}
 use Rattle.found_reasons.proofs.Narrowing.{question-has-answer}

@@ -39,8 +39,7 @@ pub use Rattle.lemma_refutations.proofs.Lists.{Has, has-none}
 pub use Rattle.reading_tables.specs.Told.{fact_of, facts_of}
 pub use Rattle.refutation_checker.specs.inner.Stack.{branches_of}
 pub use Rattle.refutation_laws.specs.inner.FullCases.{has_source, are_ordered, may_ask, is_answered, IsFull, IsSound, IsPossibleSource, NoneBetween}
-pub use Rattle.found_reasons.specs.Reasons.{product, sources_in, orders_in, all_orders, most_cases, below, still_open_after, counted_as}
-pub use Rattle.found_reasons.specs.Reasons.{given_at_first, HasMoreCases}
+pub use Rattle.found_reasons.specs.Reasons.{product, sources_in, orders_in, all_orders, most_cases, counted_as}
 pub use Rattle.refutation_checker.specs.Trees.{node_of}
 pub use Rattle.found_reasons.specs.inner.Answered.{sources_told, pairs_told, answers_told, as_question, as_node}
 pub use Rattle.found_reasons.specs.inner.Questions.{is_unread, is_unordered, first_where, first_beside, pair_or, first_pair, question_of}
@@ -49,7 +48,7 @@ pub use Rattle.tso_terms.specs.Condition.{Claim, Condition, NamesExist}
 pub use Rattle.refutation_laws.specs.declared.model.Model.{Model}
 pub use Rattle.refutations.specs.inner.Trees.{known_of, relations_of}
 pub use Rattle.refutations.specs.declared.answers.Answers.{Answers}
-pub use Rattle.found_reasons.specs.inner.Cases.{IsBranch, HasNoLeaf, IsAllowedCase, LeafIfAny, first_of_two, write_between_these}
+pub use Rattle.found_reasons.specs.inner.Cases.{given_at_first, below, IsBranch, HasNoLeaf, IsAllowedCase, LeafIfAny, first_of_two, write_between_these}
 pub use Rattle.found_reasons.specs.inner.Cases.{write_between_from, first_write_between, IsCaseStep, AreOpenAfter, QuestionOrFull}
 pub use Rattle.found_reasons.specs.inner.Cases.{is_none_left, has_no_source, read_of}
 pub use Rattle.std.proofs.lemmas.List.{set-get_or, length-set, nil_from_length}

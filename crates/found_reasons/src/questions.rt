@@ -2,13 +2,11 @@
 ghost use Rattle.std.specs.Prelude.{◌≡◌, true, false};
 ghost use Rattle.refutation_laws.specs.Known.{events_of};
 ghost use Rattle.refutation_laws.specs.inner.FullCases.{has_source, are_ordered, may_ask, is_answered};
-ghost use Rattle.refutations.specs.Trees.{node_of};
-ghost use Rattle.refutations.specs.inner.Trees.{known_of};
+ghost use Rattle.refutations.specs.inner.Trees.{node_of, known_of};
 ghost use Rattle.found_reasons.specs.inner.Questions as spec;
 
 use refutations::answers::comes_before;
-use refutations::checking::may_come_first;
-use refutations::events::{is_event, is_read, is_write, same_event, writes_to};
+use refutations::events::{is_event, is_read, is_write, may_come_first, same_event, writes_to};
 use refutations::{Answers, Node};
 use tso_terms::{Entry, Test};
 

@@ -11,7 +11,7 @@ pub enum Reason<'t> {
     Never(Vec<Lemma<'t>>, Vec<Node<'t>>),
     /// It can be: an execution in whose final state it is true.
     Allowed(Execution),
-    /// More cases have to be told apart than the caller allows.
+    /// There can be more cases than the caller allows, and the search found neither.
     TooMany,
 }
 

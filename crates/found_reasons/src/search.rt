@@ -3,7 +3,8 @@
 ghost use Rattle.std.specs.Prelude.{◌≡◌, ◌<◌, IfOk, IfSome};
 ghost use Rattle.reading_tables.specs.Told.{facts_of};
 ghost use Rattle.reading_tables.specs.inner.Tables.{IsProblem};
-ghost use Rattle.found_reasons.specs.Reasons.{IsReason, given_at_first};
+ghost use Rattle.found_reasons.specs.Reasons.{IsReason};
+ghost use Rattle.found_reasons.specs.inner.Cases.{given_at_first};
 ghost use Rattle.found_reasons.specs.Reasons as spec;
 
 use crate::reason::{Reason, Step};
@@ -69,8 +70,8 @@ fn take_proposal<'t>(
     }
 }
 
-/// Why what the test asks never is, or an execution in which it is. One of the two is found unless more
-/// cases than `limit` have to be told apart; they are never more than `most_cases`.
+/// Why what the test asks never is, or an execution in which it is. One of the two is found if there can't be more cases than `limit`
+/// (`most_cases`).
 ///
 /// Errors: out of memory only.
 pub fn explain<'t>(

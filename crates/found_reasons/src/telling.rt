@@ -1,6 +1,6 @@
 //! What is done with a case, as a node over facts.
 ghost use Rattle.std.specs.Prelude.{◌≡◌, IfOk};
-ghost use Rattle.refutations.specs.Trees as trees;
+ghost use Rattle.refutations.specs.inner.Trees as trees;
 ghost use Rattle.refutation_checker.specs.Trees.{node_of};
 ghost use Rattle.found_reasons.specs.inner.Answered.{as_node};
 

@@ -5,4 +5,3 @@ pub mod by_trees;
 pub mod found_executions;
 pub mod found_lemmas;
 pub mod judged_lemmas;
-pub mod judged_trees;

@@ -16,9 +16,8 @@ use reading_tables::counting::is_written;
 use reading_tables::facts::Fact;
 use reading_tables::tables::{Problem, Told, reading_for};
 use refutation_laws::Model;
-use refutations::checking::may_come_first;
 use refutations::edges::Acyclic;
-use refutations::events::{is_event, is_read, is_write, writes_to};
+use refutations::events::{is_event, is_read, is_write, may_come_first, writes_to};
 use std::alloc::Global;
 use tso_terms::{Entry, Kind, NoMemory};
 

@@ -2,12 +2,12 @@
 
 use crate::facts::{Fact, NO_FACT, Question};
 use crate::lemmas::is_known;
+use crate::lists::{List, NONE};
 use crate::looking::Look;
 use crate::parts::{PartKind, add_cases};
 use crate::questions::{add_answers, is_noted};
 use crate::setting::{COUNTERS, LOCKED, Setting};
 use crate::state::{Group, State};
-use reason_search::lists::{List, NONE};
 use std::alloc::Global;
 
 /// How many answers of a question aren't noted as closed.
@@ -124,7 +124,9 @@ fn add_read_questions(
         }
     }
     for x in 0..setting.locations {
-        candidates.add(setting, look, state, Question::ComesLast(x));
+        if setting.writes_to.next(x, 0) != NONE {
+            candidates.add(setting, look, state, Question::ComesLast(x));
+        }
     }
 }
 

@@ -1,9 +1,9 @@
 //! Answers whose branches edges close at once, as they are told already: no branch has to be tried for these.
 
+use crate::lists::NONE;
+use crate::rows::{Rows, bit};
 use crate::setting::Setting;
 use crate::state::{Group, NOT_LAST, State};
-use reason_search::lists::NONE;
-use reason_search::rows::{Rows, bit};
 
 /// Adds to a row the writes that are known to come before one of those that come before this read, or its store part.
 fn add_overwritten(setting: &Setting<'_>, state: &State, r: usize, closed: &mut Rows) {

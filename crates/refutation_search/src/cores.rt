@@ -3,13 +3,13 @@
 use crate::facts::{Fact, NO_FACT, Question};
 use crate::hunt::{Frame, Hunt};
 use crate::lemmas::Lemmas;
+use crate::lists::{List, NONE};
 use crate::looking::Look;
 use crate::questions::add_answers;
+use crate::rows::Rows;
 use crate::setting::Setting;
 use crate::settle::settle;
 use crate::state::{State, add_all, add_fact};
-use reason_search::lists::{List, NONE};
-use reason_search::rows::Rows;
 use std::alloc::Global;
 
 /// How many facts a branch has at most of which it is told whether they are used.

@@ -1,10 +1,10 @@
 //! Counters: locations to which locked additions and subtractions of numbers alone write. Their words add up.
 
+use crate::lists::NONE;
 use crate::sets::{MOST, add_value};
 use crate::setting::{COUNTERS, Setting};
 use crate::settle::{NEW, spare};
 use crate::state::{Group, State};
-use reason_search::lists::NONE;
 
 /// The set of sums.
 const SUMS: usize = 1;

@@ -1,10 +1,10 @@
 //! Cycles of the edges that the facts of a branch tell: the shortest one.
 
 use crate::leaves::Leaf;
+use crate::lists::{List, NONE};
+use crate::rows::Rows;
 use crate::setting::Setting;
 use crate::state::{Group, State};
-use reason_search::lists::{List, NONE};
-use reason_search::rows::Rows;
 
 /// Which relations are acyclic together.
 #[derive(Clone, Copy)]

@@ -1,6 +1,6 @@
 //! Facts, answers and questions by number: events, reads, writes and parts of what is asked.
 
-use reason_search::lists::NONE;
+use crate::lists::NONE;
 
 /// A fact, by the numbers of its events or of its part of what is asked.
 #[derive(Clone, Copy)]

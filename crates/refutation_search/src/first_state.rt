@@ -1,5 +1,6 @@
 //! The branch with which each search begins: what the program alone tells, what the claim gives, and what follows.
 
+use crate::lists::NONE;
 use crate::makings::Term;
 use crate::sets::add_value;
 use crate::setting::Setting;
@@ -7,7 +8,6 @@ use crate::settle::settle;
 use crate::state::{
     Group, LOCATIONS, READS, State, add_all, add_globally, add_on_location, add_order, empty_state,
 };
-use reason_search::lists::NONE;
 use std::alloc::Global;
 
 /// Takes from a read a write of its own core that comes later, or else what that overwrites: the last source of its own core.

@@ -7,11 +7,11 @@ use crate::hunt::Hunt;
 use crate::learner::{Because, Learner, MOST_STEPS, Watch};
 use crate::learning::learn_alone;
 use crate::lemmas::is_known;
+use crate::lists::NONE;
 use crate::questions::is_noted;
 use crate::setting::Setting;
 use crate::settle::settle;
 use crate::state::{Group, NOT_LAST};
-use reason_search::lists::NONE;
 
 /// Whether it is a lemma of one fact.
 fn is_alone(hunt: &Hunt, because: Because) -> bool {

@@ -1,10 +1,10 @@
 //! Reads on which it hangs whether what is told of another read is so. Where a read returns one of some values, and its one source can write
 //! any, it hangs on the read from which that write has its value; and so on, from write to read.
 
+use crate::lists::NONE;
 use crate::makings::Term;
 use crate::setting::Setting;
 use crate::state::{Group, State};
-use reason_search::lists::NONE;
 
 /// The read from which a write has its value, where this can be any; `NONE` where it has none.
 fn read_before(setting: &Setting<'_>, state: &State, w: usize) -> usize {

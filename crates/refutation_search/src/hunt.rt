@@ -4,12 +4,12 @@ use crate::candidates::Candidates;
 use crate::cores::{Cores, find_core};
 use crate::facts::{Fact, NO_FACT, Question};
 use crate::lemmas::{Lemma, Lemmas};
+use crate::lists::{List, NONE};
 use crate::looking::{Look, choose, cool, warm};
 use crate::questions::{add_answers, is_noted};
 use crate::setting::Setting;
 use crate::state::{State, empty_state};
 use crate::trees::{Trees, Twig};
-use reason_search::lists::{List, NONE};
 use std::alloc::Global;
 
 /// A question on the branch in hand.

@@ -1,10 +1,10 @@
 //! What a search that learns keeps: the branch in hand, why each of its facts is there, and which events are met in lemmas.
 
 use crate::facts::{Fact, NO_FACT};
+use crate::lists::{List, NONE};
+use crate::rows::Rows;
 use crate::setting::Setting;
 use crate::state::{State, add_fact, empty_state};
-use reason_search::lists::{List, NONE};
-use reason_search::rows::Rows;
 use std::alloc::Global;
 
 /// How many facts a branch has at most besides those that are given.

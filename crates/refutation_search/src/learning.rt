@@ -4,10 +4,10 @@ use crate::facts::{Fact, NO_FACT, Question, opposite};
 use crate::hunt::Hunt;
 use crate::learner::{Because, FOUND, Learner, MOST_STEPS, PASSED, WANTED};
 use crate::lemmas::Lemma;
+use crate::lists::NONE;
 use crate::setting::Setting;
 use crate::trees::Twig;
 use crate::using::{Closed, find_used};
-use reason_search::lists::NONE;
 
 /// Adds the steps that were found to those of which a lemma is made. Those that hold without a choice have lemmas of their own.
 fn take_found(setting: &Setting<'_>, learner: &mut Learner, steps: usize) {

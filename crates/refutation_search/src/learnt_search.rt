@@ -5,10 +5,10 @@ use crate::following::follow;
 use crate::hunt::{DEEPEST, Find, Hunt, keep_level};
 use crate::learner::{Because, Learner};
 use crate::learning::{Learnt, learn};
+use crate::lists::NONE;
 use crate::questions::is_noted;
 use crate::setting::Setting;
 use crate::state::Group;
-use reason_search::lists::NONE;
 
 /// How many branches are closed before the search begins anew, at least.
 const FIRST_PAUSE: usize = 32;

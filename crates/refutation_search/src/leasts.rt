@@ -2,10 +2,10 @@
 //! together fit into a word: whoever adds 2 leaves at least 2.
 
 use crate::facts::Fact;
+use crate::lists::NONE;
 use crate::makings::Term;
 use crate::setting::{GROWING, Setting};
 use crate::state::{Group, State};
-use reason_search::lists::NONE;
 
 /// The least that can be, and of how many others, one after the other, this was found.
 #[derive(Clone, Copy)]

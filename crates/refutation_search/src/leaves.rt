@@ -1,10 +1,10 @@
 //! Why a branch is closed at once.
 
 use crate::edges::{Acyclic, find_cycle};
+use crate::lists::{List, NONE};
 use crate::setting::{LOCKED, Setting};
 use crate::state::{Group, State};
 use crate::truths::is_false;
-use reason_search::lists::{List, NONE};
 
 /// Why a branch is closed at once.
 #[derive(Clone, Copy)]

@@ -1,9 +1,9 @@
 //! Facts that were found closed together: each with the node that shows it.
 
 use crate::facts::{Fact, NO_FACT};
+use crate::lists::{List, NONE};
 use crate::setting::Setting;
 use crate::state::{Group, State};
-use reason_search::lists::{List, NONE};
 use std::alloc::Global;
 
 /// Facts that no branch meets together.

@@ -2,8 +2,8 @@
 //! judged elsewhere. So its contracts say nothing but that it is safe and ends.
 #![tactic(auto)]
 
-pub mod borrowing;
 pub mod candidates;
+pub mod chance;
 pub mod closing;
 pub mod cores;
 pub mod counting;
@@ -20,6 +20,7 @@ pub mod leasts;
 pub mod leaves;
 pub mod lemmas;
 pub mod lines;
+pub mod lists;
 pub mod looking;
 pub mod makings;
 pub mod ordering;
@@ -28,11 +29,13 @@ pub mod program;
 pub mod proposal;
 pub mod questions;
 pub mod replay;
+pub mod rows;
 pub mod runs;
 pub mod searching;
 pub mod sets;
 pub mod setting;
 pub mod settle;
+pub mod soon;
 pub mod state;
 pub mod told;
 pub mod trees;

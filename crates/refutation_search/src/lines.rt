@@ -1,8 +1,8 @@
 //! How many lines a refutation has when it is printed.
 
 use crate::leaves::{Leaf, same_leaf};
+use crate::lists::List;
 use crate::replay::{Node, Sheet};
-use reason_search::lists::List;
 use std::alloc::Global;
 
 /// A part that is counted: its lines, and its leaf, where it is one alone.

@@ -5,12 +5,12 @@ use crate::closing::note_closed;
 use crate::facts::{Fact, NO_FACT, Question, same_question};
 use crate::hanging::hanging_read;
 use crate::lemmas::Lemmas;
+use crate::lists::{List, NONE};
 use crate::questions::{add_answers, close_answer, is_noted};
+use crate::rows::Rows;
 use crate::setting::Setting;
 use crate::settle::settle;
 use crate::state::{Group, State, add_fact};
-use reason_search::lists::{List, NONE};
-use reason_search::rows::Rows;
 use std::alloc::Global;
 
 /// A question, and what a look at its answers told.

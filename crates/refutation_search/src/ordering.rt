@@ -1,9 +1,9 @@
 //! The order of an execution, from a branch on which nothing is left to ask.
 
+use crate::lists::{List, NONE};
+use crate::rows::{Rows, bit};
 use crate::setting::{Event, Setting};
 use crate::state::{Group, State};
-use reason_search::lists::{List, NONE};
-use reason_search::rows::{Rows, bit};
 use tso_terms::{Entry, Execution, NoMemory};
 
 /// The load part of the locked instruction whose store part this is, else the event itself.

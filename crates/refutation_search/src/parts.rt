@@ -1,10 +1,10 @@
 //! What is asked of the final state, as a list of parts: each stands before the parts that it is made of, the first one right behind it.
 
 use crate::facts::Fact;
+use crate::lists::{List, NONE};
 use crate::makings::Term;
 use crate::setting::{NAMED, Setting};
 use reading_tables::tables::Problem;
-use reason_search::lists::{List, NONE};
 use tso_terms::Prop;
 
 /// What a part says.

@@ -3,11 +3,11 @@
 use crate::facts::{Fact, NO_FACT};
 use crate::hunt::Hunt;
 use crate::lines::count_lines;
+use crate::lists::{List, NONE};
 use crate::replay::{Sheet, print_part};
 use crate::setting::Setting;
 use crate::told::{add_told, told_nodes};
 use reading_tables::tables::Problem;
-use reason_search::lists::{List, NONE};
 use refutation_checker::{Lemma, Node as Checked};
 use std::alloc::Global;
 use tso_terms::NoMemory;

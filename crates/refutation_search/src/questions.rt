@@ -1,10 +1,10 @@
 //! The answers to a question that a branch leaves possible.
 
 use crate::facts::{Fact, Question, opposite};
+use crate::lists::{List, NONE};
 use crate::parts::add_cases;
 use crate::setting::Setting;
 use crate::state::{Group, NOT_LAST, State};
-use reason_search::lists::{List, NONE};
 
 fn add_sources(setting: &Setting<'_>, state: &State, r: usize, answers: &mut List<Fact>) {
     let row = Group::Sources.row(setting, r);

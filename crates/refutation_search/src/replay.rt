@@ -5,6 +5,7 @@ use crate::facts::{Fact, NO_FACT, Question, opposite};
 use crate::hunt::{Hunt, keep_level};
 use crate::leaves::{Leaf, find_leaf};
 use crate::lemmas::{Lemmas, is_known};
+use crate::lists::{List, NONE};
 use crate::questions::add_answers;
 use crate::setting::Setting;
 use crate::settle::settle;
@@ -12,7 +13,6 @@ use crate::state::{Group, State, add_all, add_fact, empty_state};
 use crate::told::told_answers;
 use crate::trees::Trees;
 use reading_tables::tables::Problem;
-use reason_search::lists::{List, NONE};
 use std::alloc::Global;
 
 /// What stands at a node of a refutation that is printed.

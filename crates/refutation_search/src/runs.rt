@@ -1,13 +1,13 @@
 //! Runs by chance: the cores take steps and write back stores in an order of chance, as far as what is known of each read and write leaves
 //! them possible. Where what is asked is true at the end of many runs, one is found soon.
 
+use crate::chance::{Chance, FIRST_CHANCE};
+use crate::lists::{List, NONE};
 use crate::makings::Term;
 use crate::parts::PartKind;
+use crate::rows::Rows;
 use crate::setting::Setting;
 use crate::state::{Group, State};
-use reason_search::chance::{Chance, FIRST_CHANCE};
-use reason_search::lists::{List, NONE};
-use reason_search::rows::Rows;
 use std::alloc::Global;
 use tso_terms::{Entry, Execution, NoMemory};
 

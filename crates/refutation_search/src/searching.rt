@@ -1,19 +1,16 @@
-//! The whole search: runs by chance for an execution, most of them only where a short search hasn't closed what the claim gives; depth first
-//! for a refutation, again and again with what was learnt, and a few times more for a shorter one. Where that takes too long, the search that
-//! learns from each branch; and the search over sources and orders alone.
+//! The whole search: what is soon found; depth first for a refutation, again and again with what was learnt, and a few times more for a
+//! shorter one. Where that takes too long, many runs by chance for an execution, and then the search that learns from each branch.
 
-use crate::borrowing::take_over;
 use crate::first_state::first_state;
 use crate::hunt::{Find, Hunt, hunt_for, make_hunt};
 use crate::learner::Learner;
 use crate::learnt_search::search_learning;
-use crate::ordering::make_order;
 use crate::proposal::{Proposal, propose};
 use crate::runs::find_run;
 use crate::setting::{Setting, make_setting};
+use crate::soon::{Soon, find_soon, looks_to_learn, met_order, open_order, steps_for};
 use crate::state::State;
 use reading_tables::tables::Problem;
-use reason_search::{has_tree, make_guide_within, proposed_order};
 use refutation_laws::Model;
 use std::alloc::Global;
 use tso_terms::{Execution, NoMemory};
@@ -35,22 +32,8 @@ const MOST_TRIES: usize = 4;
 /// A refutation that has no more lines is short.
 const FEW_LINES: usize = 2;
 
-/// A refutation that has more lines may be longer than one over sources and orders alone.
+/// A refutation that has more lines may be longer than one that is learnt.
 const MANY_LINES: usize = 40;
-
-/// How many steps runs by chance take for each case that may be looked at, and in all.
-const STEPS_FOR_CASE: usize = 20_000;
-
-const MOST_STEPS: usize = 2_000_000;
-
-/// How many of these steps they take before a short search has its turn.
-const FEW_STEPS: usize = 20_000;
-
-/// How much work the search over sources and orders alone may be, where each case costs the cube of the number of events; and how many
-/// cases it looks at only for a shorter refutation.
-const MOST_WORK: usize = 800_000_000;
-
-const FEW_CASES: usize = 4_000;
 
 /// Into how many parts looks are divided. After the first part the search that learns has its turn, and only what was found in that part
 /// is made shorter.
@@ -58,12 +41,6 @@ const FIRST_PART: usize = 8;
 
 /// Where events are so many times as many as these, asking back makes fewer looks, by the square.
 const FEW_EVENTS: usize = 64;
-
-/// How many looks the search that learns may make for each case; and how much work they may be, where each one costs the fifth power of
-/// the number of events at worst.
-const LOOKS_FOR_CASE: usize = 3;
-
-const MOST_LEARNING: usize = 70_000_000_000_000;
 
 /// Searches for so many cases, with pauses, after each of which it begins anew with what it learnt.
 fn hunt_again(setting: &Setting<'_>, hunt: &mut Hunt, limit: usize) -> Find {
@@ -80,11 +57,11 @@ fn hunt_again(setting: &Setting<'_>, hunt: &mut Hunt, limit: usize) -> Find {
     Find::Late
 }
 
-/// The order of an execution from the branch on which a search found no question left.
-fn open_order<'t>(setting: &Setting<'t>, hunt: &Hunt) -> Result<Proposed<'t>, NoMemory> {
-    match hunt.levels.get(hunt.frames.len()) {
-        Some(state) => Ok(Proposed::Execution(make_order(setting, state)?)),
-        None => Ok(Proposed::Nothing),
+/// What is proposed where a search came to an order, or to none.
+fn execution<'t>(order: Option<Execution>) -> Proposed<'t> {
+    match order {
+        Some(order) => Proposed::Execution(order),
+        None => Proposed::Nothing,
     }
 }
 
@@ -116,7 +93,7 @@ fn hunt_on<'t>(
     }
     match found {
         Find::Refuted(node) => refutation(alloc, setting, problem, hunt, node),
-        Find::Open => open_order(setting, hunt),
+        Find::Open => Ok(execution(open_order(setting, problem, hunt)?)),
         Find::Late => Ok(Proposed::Nothing),
     }
 }
@@ -157,32 +134,6 @@ fn ask_back<'t>(
     }
 }
 
-/// What the search over sources and orders alone proposes.
-fn borrow<'t>(
-    alloc: Global,
-    setting: &Setting<'t>,
-    problem: &Problem<'t>,
-    model: Model,
-    root: &State,
-    limit: usize,
-) -> Result<Proposed<'t>, NoMemory> {
-    let most = setting.affordable(MOST_WORK, 3);
-    let cases = limit.min(most);
-    let mut guide = make_guide_within(alloc, problem.test, &problem.events, model, cases)?;
-    if let Some(execution) = proposed_order(alloc, &guide)? {
-        return Ok(Proposed::Execution(execution));
-    }
-    if !has_tree(&guide) {
-        return Ok(Proposed::Nothing);
-    }
-    let mut hunt = make_hunt(alloc, setting, root.copy(setting), 0);
-    let node = take_over(alloc, setting, &mut guide, &mut hunt.trees)?;
-    if hunt.is_refused() {
-        return Err(NoMemory);
-    }
-    refutation(alloc, setting, problem, &hunt, node)
-}
-
 /// The one that has fewer lines.
 fn shorter<'t>(best: Proposal<'t>, other: Proposed<'t>) -> Proposal<'t> {
     match other {
@@ -202,7 +153,6 @@ fn shorten<'t>(
     alloc: Global,
     setting: &Setting<'t>,
     problem: &Problem<'t>,
-    model: Model,
     hunt: &Hunt,
     first: Proposal<'t>,
     limit: usize,
@@ -218,10 +168,6 @@ fn shorten<'t>(
         let other = try_twist(alloc, setting, problem, root, twist, cases)?;
         best = shorter(best, other);
     }
-    if best.lines > MANY_LINES {
-        let other = borrow(alloc, setting, problem, model, root, limit.min(FEW_CASES))?;
-        best = shorter(best, other);
-    }
     Ok(best)
 }
 
@@ -230,29 +176,28 @@ fn shortened<'t>(
     alloc: Global,
     setting: &Setting<'t>,
     problem: &Problem<'t>,
-    model: Model,
     hunt: &Hunt,
     found: Proposed<'t>,
     limit: usize,
 ) -> Result<Proposed<'t>, NoMemory> {
     match found {
         Proposed::Refutation(first) if hunt.look.made <= hunt.looks / FIRST_PART => {
-            let best = shorten(alloc, setting, problem, model, hunt, first, limit)?;
+            let best = shorten(alloc, setting, problem, hunt, first, limit)?;
             Ok(Proposed::Refutation(best))
         }
         other => Ok(other),
     }
 }
 
-/// Searches from this branch for a part of the looks, then back from what is told, then with what is learnt from each branch, and then over sources and
-/// orders alone.
+/// Searches from this branch for a part of the looks, then by many runs of chance if it may be met, then back from what is told, and then
+/// with what is learnt from each branch.
 fn propose_reason<'t>(
     alloc: Global,
     setting: &Setting<'t>,
     problem: &Problem<'t>,
-    model: Model,
     root: State,
     limit: usize,
+    may_be_met: bool,
 ) -> Result<Proposed<'t>, NoMemory> {
     let mut hunt = make_hunt(alloc, setting, root, limit);
     let looks = hunt.looks;
@@ -260,11 +205,15 @@ fn propose_reason<'t>(
     let first = hunt_on(alloc, setting, problem, &mut hunt, limit)?;
     hunt.looks = looks;
     if !matches!(first, Proposed::Nothing) {
-        return shortened(alloc, setting, problem, model, &hunt, first, limit);
+        return shortened(alloc, setting, problem, &hunt, first, limit);
+    }
+    if may_be_met {
+        if let Some(order) = find_run(alloc, setting, &hunt.root, steps_for(limit))? {
+            return Ok(Proposed::Execution(order));
+        }
     }
     let back = ask_back(alloc, setting, problem, &hunt.root, limit)?;
-    let found = or_learnt(alloc, setting, problem, &mut hunt, back, limit)?;
-    or_borrowed(alloc, setting, problem, model, &hunt.root, found, limit)
+    or_learnt(alloc, setting, problem, &mut hunt, back, limit)
 }
 
 /// What was found, or a shorter one that is learnt, or any where nothing was found.
@@ -286,33 +235,6 @@ fn or_learnt<'t>(
     }
 }
 
-/// What was found, or a shorter one over sources and orders alone, or any over these where nothing was found.
-fn or_borrowed<'t>(
-    alloc: Global,
-    setting: &Setting<'t>,
-    problem: &Problem<'t>,
-    model: Model,
-    root: &State,
-    found: Proposed<'t>,
-    limit: usize,
-) -> Result<Proposed<'t>, NoMemory> {
-    match found {
-        Proposed::Refutation(best) if best.lines > MANY_LINES => {
-            let other = borrow(alloc, setting, problem, model, root, limit.min(FEW_CASES))?;
-            Ok(Proposed::Refutation(shorter(best, other)))
-        }
-        Proposed::Nothing => borrow(alloc, setting, problem, model, root, limit),
-        other => Ok(other),
-    }
-}
-
-/// How many looks the search that learns may make.
-fn looks_to_learn(setting: &Setting<'_>, limit: usize) -> usize {
-    limit
-        .saturating_mul(LOOKS_FOR_CASE)
-        .min(setting.affordable(MOST_LEARNING, 5))
-}
-
 /// Learns, as long as looks are left: what is proposed by then.
 fn learn_long<'t>(
     alloc: Global,
@@ -330,40 +252,9 @@ fn learn_long<'t>(
     }
     match found {
         Find::Refuted(node) => refutation(alloc, setting, problem, hunt, node),
-        Find::Open => Ok(Proposed::Execution(make_order(setting, &learner.now)?)),
+        Find::Open => Ok(execution(met_order(setting, problem, &learner.now)?)),
         Find::Late => Ok(Proposed::Nothing),
     }
-}
-
-/// Whether a short search from this branch closes it.
-fn is_soon_closed(alloc: Global, setting: &Setting<'_>, root: &State) -> Result<bool, NoMemory> {
-    let mut hunt = make_hunt(alloc, setting, root.copy(setting), 1);
-    hunt.looks = hunt.looks.min(hunt.most_looks);
-    let found = hunt_for(setting, &mut hunt, 1);
-    if hunt.is_refused() {
-        return Err(NoMemory);
-    }
-    Ok(matches!(found, Find::Refuted(_)))
-}
-
-/// The order of a run at whose end what is asked is true, if one is found. None is looked for any longer once a short search has closed the
-/// branch.
-fn find_order(
-    alloc: Global,
-    setting: &Setting<'_>,
-    root: &State,
-    limit: usize,
-) -> Result<Option<Execution>, NoMemory> {
-    let steps = limit.saturating_mul(STEPS_FOR_CASE).min(MOST_STEPS);
-    let few = steps.min(FEW_STEPS);
-    let first = find_run(alloc, setting, root, few)?;
-    if first.is_some() | root.is_closed | (few == steps) {
-        return Ok(first);
-    }
-    if is_soon_closed(alloc, setting, root)? {
-        return Ok(None);
-    }
-    find_run(alloc, setting, root, steps)
 }
 
 /// Searches for an execution in which what a test asks is true, or a refutation by lemmas of it, for so many cases: what it proposes, if it
@@ -384,8 +275,10 @@ pub fn propose_answer<'t>(
     if root.is_refused() {
         return Err(NoMemory);
     }
-    if let Some(execution) = find_order(alloc, &setting, &root, limit)? {
-        return Ok(Proposed::Execution(execution));
-    }
-    propose_reason(alloc, &setting, problem, model, root, limit)
+    let may_be_met = match find_soon(alloc, &setting, problem, &root, limit)? {
+        Soon::Met(order) => return Ok(Proposed::Execution(order)),
+        Soon::Closed => false,
+        Soon::Open => true,
+    };
+    propose_reason(alloc, &setting, problem, root, limit, may_be_met)
 }

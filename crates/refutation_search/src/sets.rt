@@ -1,6 +1,6 @@
 //! Sets of values: what each event can read or write, at most so many values, or any one.
 
-use reason_search::lists::List;
+use crate::lists::List;
 use std::alloc::Global;
 
 /// How many values are told at most. More are told as any value.

@@ -1,12 +1,12 @@
 //! What a search works on, by number: the initial write of each location stands before the events.
 
 use crate::facts::{Fact, NO_FACT};
+use crate::lists::{List, NONE};
 use crate::makings::{Making, NO_MAKING, Term, add_makings, term_of};
 use crate::parts::{NO_PART, Part, add_given, add_parts};
 use crate::program::add_program;
+use crate::rows::Rows;
 use reading_tables::tables::Problem;
-use reason_search::lists::{List, NONE};
-use reason_search::rows::Rows;
 use refutation_laws::Model;
 use refutations::events::{is_read, is_write};
 use std::alloc::Global;
@@ -116,6 +116,15 @@ impl<'t> Setting<'t> {
             cost = cost.saturating_mul(self.size.max(FEWEST));
         }
         work / cost.max(1)
+    }
+
+    /// The model of whose executions the search is.
+    pub fn model(&self) -> Model {
+        if self.is_sequential {
+            Model::Sequential
+        } else {
+            Model::Tso
+        }
     }
 
     /// The first word of a location.

@@ -3,15 +3,15 @@
 use crate::counting::count_values;
 use crate::facts::Fact;
 use crate::leasts::{raise_least, returns_less};
+use crate::lists::NONE;
 use crate::makings::find_term;
+use crate::rows::bit;
 use crate::sets::add_value;
 use crate::setting::{LOCKED, NAMED, Setting};
 use crate::state::{
     Group, LOCATIONS, READS, State, TOLD, add_globally, add_on_location, add_order, remove_source,
 };
 use crate::truths::{find_truths, is_false, may_be_left};
-use reason_search::lists::NONE;
-use reason_search::rows::bit;
 
 /// The set in which new values are gathered, as many after the events' own.
 pub const NEW: usize = 0;

@@ -3,12 +3,12 @@
 use crate::counting::SPARES;
 use crate::facts::{Fact, NO_FACT};
 use crate::leasts::{Least, NOTHING};
+use crate::lists::{List, NONE};
 use crate::parts::add_given;
+use crate::rows::Rows;
 use crate::sets::Values;
 use crate::setting::{COUNTERS, Setting};
 use crate::truths::{OPEN, Truth};
-use reason_search::lists::{List, NONE};
-use reason_search::rows::Rows;
 use std::alloc::Global;
 
 /// What is kept of each event.

@@ -3,13 +3,13 @@
 use crate::edges::Acyclic;
 use crate::facts::{Fact, Question};
 use crate::leaves::Leaf;
+use crate::lists::List;
 use crate::replay::{Node, Sheet};
 use crate::setting::Setting;
 use crate::state::State;
 use reading_tables::facts::Fact as Told;
 use reading_tables::rounds::make_table;
 use reading_tables::tables::{Problem, make_problem, reading_for};
-use reason_search::lists::List;
 use refutation_checker::Node as Checked;
 use std::alloc::Global;
 use tso_terms::{Entry, Loc, NoMemory};

@@ -1,7 +1,7 @@
 //! The tree of a refutation while it grows: questions, and for each answer whose branch isn't closed at once the node that closes it.
 
 use crate::facts::{Fact, NO_FACT, Question, same_fact};
-use reason_search::lists::{List, NONE};
+use crate::lists::{List, NONE};
 use std::alloc::Global;
 
 /// A question with its branches.

@@ -3,13 +3,13 @@
 use crate::counting::counted;
 use crate::facts::Fact;
 use crate::leasts::is_more;
+use crate::lists::NONE;
 use crate::makings::{Term, find_term};
 use crate::parts::PartKind;
 use crate::sets::add_value;
 use crate::setting::{COUNTERS, Setting};
 use crate::settle::{NEW, spare};
 use crate::state::State;
-use reason_search::lists::NONE;
 
 /// What a part can be.
 #[derive(Clone, Copy)]

@@ -1,4 +1,3 @@
-pub mod Trees
 pub mod inner
 pub use Rattle.refutation_laws.specs.Known
 pub use Rattle.refutation_laws.specs.Edges

@@ -1,4 +1,3 @@
 -- Words of contracts inside the crate.
 pub mod Facts
-pub mod Stack
 pub mod Trees

@@ -1,13 +1,12 @@
 //! What a branch of a refutation knows: the answers on the way to it. Reads-from, coherence and from-reads follow from these
 //! alone. (Herding Cats, section 4: rf, co and fr.)
-ghost use Rattle.std.specs.Prelude.{◌≡◌, IfOk};
+ghost use Rattle.std.specs.Prelude.{◌≡◌};
 ghost use Rattle.refutation_laws.specs.Known as spec;
 ghost use Rattle.refutations.specs.inner.Trees.{known_of};
 
 use crate::events::{same_event, writes_to};
 use refutation_laws::{Pair, Source};
-use std::alloc::Global;
-use tso_terms::{Entry, NoMemory, Test};
+use tso_terms::{Entry, Test};
 
 /// The answers of a branch, the last one first.
 pub struct Answers {
@@ -33,52 +32,6 @@ pub struct Branch<'t> {
     pub test: &'t Test,
     pub events: &'t [Entry],
     pub answers: &'t Answers,
-}
-
-/// No answer.
-pub fn no_answers(alloc: Global) -> Answers
-    ensures { known_of result ≡ spec.nothing }
-{
-    Answers {
-        sources: Vec::new(alloc),
-        order: Vec::new(alloc),
-    }
-}
-
-/// These answers, and one more: what a read reads from. None is the initial write.
-///
-/// Errors: out of memory only.
-pub fn with_source(
-    alloc: Global,
-    answers: &Answers,
-    read: Entry,
-    write: Option<Entry>,
-) -> Result<Answers, NoMemory>
-    ensures { IfOk result (λ a. known_of a ≡ spec.with_source (known_of answers.now) read write) }
-{
-    let mut sources = Vec::new(alloc);
-    sources.push(Source { read, write })?;
-    sources.extend_from_slice(&answers.sources)?;
-    let order = Vec::from_slice(alloc, &answers.order)?;
-    Ok(Answers { sources, order })
-}
-
-/// These answers, and one more: of two writes to a location, which one comes first.
-///
-/// Errors: out of memory only.
-pub fn with_pair(
-    alloc: Global,
-    answers: &Answers,
-    first: Entry,
-    second: Entry,
-) -> Result<Answers, NoMemory>
-    ensures { IfOk result (λ a. known_of a ≡ spec.with_pair (known_of answers.now) first second) }
-{
-    let sources = Vec::from_slice(alloc, &answers.sources)?;
-    let mut order = Vec::new(alloc);
-    order.push(Pair { first, second })?;
-    order.extend_from_slice(&answers.order)?;
-    Ok(Answers { sources, order })
 }
 
 /// Whether it is an answer that r reads from w.

@@ -1,5 +1,5 @@
 //! The events of a test: the entries of its programs, whose values are left open. (Herding Cats, section 4.)
-ghost use Rattle.std.specs.Prelude.{◌≡◌, IfOk};
+ghost use Rattle.std.specs.Prelude.{◌≡◌, ◌&&◌, not, IfOk};
 ghost use Rattle.tso_terms.specs.ProgramOrder as program_order;
 ghost use Rattle.relational_model.specs.Relations as relations;
 ghost use Rattle.relational_model.specs.Model as model;
@@ -103,4 +103,17 @@ pub fn are_parts(r: &Entry, w: &Entry) -> bool
     ensures { result ≡ edges.are_parts r.now w.now }
 {
     r.kind == Kind::LR && w.kind == Kind::LW && r.core.0 == w.core.0 && r.place == w.place
+}
+
+/// Whether it may be asked which of two events comes first: they are different writes to one location.
+pub fn may_come_first(test: &Test, events: &[Entry], w: &Entry, v: &Entry) -> bool
+    requires { events.now ≡ spec.events_of test.now }
+    ensures { result ≡ (spec.is_event test.now w.now && spec.is_event test.now v.now && program_order.is_write w.now
+        && program_order.writes_to w.now.loc.0 v.now && not (spec.same_event w.now v.now)) }
+{
+    is_event(test, events, w)
+        && is_event(test, events, v)
+        && is_write(w)
+        && writes_to(w.loc.0, v)
+        && !same_event(w, v)
 }

@@ -51,7 +51,7 @@ module _ (kind : ProtocolKind) (c : Configuration) (set : Instructions) (e : Exp
       (run-again kind c set json (parts_of input).test t said.choices said.order texts reaching atomic spelled
       (separated (printed_choices said.choices)) said.spelled
       (subst (λ d. LeadTo t d said.choices said.order) (sym depth) said.lead))
-  of-a-test t _ _ spelled good (too_many more fewer) = absurd (unended-is-none good)
+  of-a-test t _ _ spelled good (too_many fewer) = absurd (unended-is-none good)
 
   pub explained : (out : List ℕ) (status : Status) → IsPrinted status → IsInputAnswer (settings.Why e set told assert) input out status
       → IsExplained kind c set json e.model told (parts_of input).test out

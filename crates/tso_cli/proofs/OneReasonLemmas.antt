@@ -13,12 +13,12 @@ one-reason : (set : Instructions) (test : List ℕ) (t : Litmus) (e f : Explanat
     → e.model ≡ f.model
     → SpellsTest set test t
     → HeadlineOfReasons t e json out → HeadlineOfReasons t f again other → AreOneReason set test e f json again out other
-one-reason set test t e f json again out other same spelled (too_many more fewer is) q =
-    first_gives_none t spelled (record { more = more; fewer = fewer; printed = is })
-one-reason set test t e f json again out other same spelled (never p) (too_many more fewer is) =
-    second_gives_none t spelled (record { more = more; fewer = fewer; printed = is })
-one-reason set test t e f json again out other same spelled (allowed p) (too_many more fewer is) =
-    second_gives_none t spelled (record { more = more; fewer = fewer; printed = is })
+one-reason set test t e f json again out other same spelled (too_many fewer is) q =
+    first_gives_none t spelled (record { fewer = fewer; printed = is })
+one-reason set test t e f json again out other same spelled (never p) (too_many fewer is) =
+    second_gives_none t spelled (record { fewer = fewer; printed = is })
+one-reason set test t e f json again out other same spelled (allowed p) (too_many fewer is) =
+    second_gives_none t spelled (record { fewer = fewer; printed = is })
 one-reason set test t e f json again out other same spelled (never p) (never q) = both_never t spelled p q
 one-reason set test t e f json again out other same spelled (allowed p) (allowed q) = both_allowed t spelled p q
 one-reason set test t e f json again out other same spelled (never p) (allowed q) =

@@ -121,4 +121,4 @@ pub reasons-mean : (t : Litmus) (e : Explanation) (json assert : Bool) (out : Li
     → IsWhyAnswer t e json assert out status → HeadlineOfReasons t e json out
 reasons-mean t e json assert _ _ reaching laws test (never lemmas tree refuted) = never (refutation-means t e.model json lemmas tree laws test refuted)
 reasons-mean t e json assert _ _ reaching laws test (allowed out is) = allowed (execution-means t e json out reaching test is)
-reasons-mean t e json assert _ _ reaching laws test (too_many more fewer) = too_many more fewer refl
+reasons-mean t e json assert _ _ reaching laws test (too_many fewer) = too_many fewer refl

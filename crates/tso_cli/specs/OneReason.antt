@@ -1,12 +1,11 @@
 -- What the headline leaves open of `why`: two texts of which it holds, for one model, each as lines or as JSON and with a limit of its own.
 -- Both are refutations, or both are executions; which ones they are may differ.
 use Rattle.std.specs.Prelude.{ℕ, ◌<◌, ◌≡◌, Bool, List}
-use Rattle.tso_cli.specs.Vocabulary.{HasMoreCases, Explanation, Instructions, Litmus, most_cases, SpellsTest, unfinished_cases_in}
+use Rattle.tso_cli.specs.Vocabulary.{Explanation, Instructions, Litmus, most_cases, SpellsTest, unfinished_cases_in}
 use Rattle.tso_cli.specs.WhyHeadline.{PrintsRefutation, PrintsExecutionOf}
 
--- the text gives no reason: it says that more cases have to be told apart than may be
+-- the text gives no reason: it says how many cases may be told apart, and there can be more
 pub record GivesNoReason (t : Litmus) (e : Explanation) (json : Bool) (out : List ℕ) : Type 0 where
-  pub more : HasMoreCases e.model t e.cases
   pub fewer : e.cases < most_cases t
   pub printed : out ≡ unfinished_cases_in json t e.cases
 

@@ -9,7 +9,7 @@ pub use Rattle.basic_laws.specs.Types.{Atomic, Split, Choice, Entry}
 pub use Rattle.tso_laws.specs.Along.{choices_along, LeadTo}
 pub use Rattle.tso_laws.specs.Outcomes.{IsEnd, LeadToEnd}
 pub use Rattle.refutation_laws.specs.declared.model.Model.{Model}
-pub use Rattle.found_reasons.specs.Reasons.{HasMoreCases, most_cases}
+pub use Rattle.found_reasons.specs.Reasons.{most_cases}
 pub use Rattle.litmus_reader.specs.Spelling.{SpellsTest}
 pub use Rattle.litmus_tokens.specs.declared.instructions.Instructions.{Instructions}
 pub use Rattle.litmus_reader.specs.declared.fault.TextFault.{TextFault}

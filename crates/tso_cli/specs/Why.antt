@@ -1,11 +1,11 @@
--- The answer of `why`: a refutation of what the test asks, an execution in which it is so, or that more cases have to be told apart than
--- may be.
+-- The answer of `why`: a refutation of what the test asks, an execution in which it is so, or that there can be more cases than may be told
+-- apart.
 use Rattle.std.specs.Prelude.{◌≡◌, ◌<◌, ℕ, Bool, true, false, List}
 use Rattle.tso_cli.specs.Vocabulary.{Choice, Entry, is_as_claimed, LeadTo, Litmus}
 use Rattle.refutation_laws.specs.Refutations.{asked_claim}
 use Rattle.refutation_laws.specs.Models.{IsMet, depth_of}
 use Rattle.lemma_refutations.specs.Refutations.{Lemma, Node, refutes}
-use Rattle.found_reasons.specs.Reasons.{HasMoreCases, most_cases}
+use Rattle.found_reasons.specs.Reasons.{most_cases}
 use Rattle.search_report.specs.PrintedReasons.{ShowsExecution, unfinished_cases_in}
 use Rattle.search_report.specs.RefutationReports.{refutation_in}
 use Rattle.command_line.specs.Explanation.{Explanation}
@@ -28,5 +28,5 @@ pub data IsWhyAnswer (t : Litmus) (e : Explanation) (json assert : Bool) : List 
       → IsWhyAnswer t e json assert (refutation_in json e.model t lemmas tree) (status_of_verdict assert (is_as_claimed t.condition false))
   allowed : (out : List ℕ) → IsAllowedAnswer t e json out
       → IsWhyAnswer t e json assert out (status_of_verdict assert (is_as_claimed t.condition true))
-  too_many : HasMoreCases e.model t e.cases → e.cases < most_cases t
+  too_many : e.cases < most_cases t
       → IsWhyAnswer t e json assert (unfinished_cases_in json t e.cases) Unended

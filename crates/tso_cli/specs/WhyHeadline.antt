@@ -1,7 +1,7 @@
 -- What `why` prints: why what a test asks is so in no execution of the model, or an execution in which it is, and how to get there.
 -- (Primer, chapter 4, for the axioms of TSO, and chapter 3 for sequential consistency; Herding Cats, section 4, for the refutation.)
 use Rattle.std.specs.Prelude.{ℕ, ◌<◌, ◌≡◌, Bool, true, List, length, Option, Some, None}
-use Rattle.tso_cli.specs.Vocabulary.{Choice, HasMoreCases, Condition, Entry, Explanation, final_registers, final_words, LeadTo, Litmus}
+use Rattle.tso_cli.specs.Vocabulary.{Choice, Condition, Entry, Explanation, final_registers, final_words, LeadTo, Litmus}
 use Rattle.tso_cli.specs.Vocabulary.{Model, most_cases, printed_choices, run, refutation_in, ShowsExecution, SpellsChoices, truth_of}
 use Rattle.tso_cli.specs.Vocabulary.{unfinished_cases_in}
 use Rattle.tso_terms.specs.FlatMachine.{registers_in}
@@ -44,10 +44,9 @@ pub record PrintsExecutionOf (t : Litmus) (model : Model) (json : Bool) (out : L
   pub spelled : SpellsChoices (length t.programs) (printed_choices choices) choices
   pub shown : ShowsExecution json model t order choices out
 
--- one of these, or one line which says that more cases have to be told apart than may be: then there is no part of a reason, so that
--- nobody takes it for the whole
+-- one of these, or, if there can be more cases than may be told apart, one line that says how many may be: then there is no part of a
+-- reason, so that nobody takes it for the whole
 pub data HeadlineOfReasons (t : Litmus) (e : Explanation) (json : Bool) (out : List ℕ) : Type 0 where
   never : PrintsRefutation t e.model json out → HeadlineOfReasons t e json out
   allowed : PrintsExecutionOf t e.model json out → HeadlineOfReasons t e json out
-  too_many : HasMoreCases e.model t e.cases → e.cases < most_cases t → out ≡ unfinished_cases_in json t e.cases
-      → HeadlineOfReasons t e json out
+  too_many : e.cases < most_cases t → out ≡ unfinished_cases_in json t e.cases → HeadlineOfReasons t e json out

@@ -1,5 +1,5 @@
-//! The answer of `why`: the reason why what a test asks never is, an execution in which it is, or that more cases have to be
-//! told apart than may be. A part of a reason must never look like a whole one.
+//! The answer of `why`: the reason why what a test asks never is, an execution in which it is, or that the search gave up. A part of a reason
+//! must never look like a whole one.
 
 ghost use Rattle.std.specs.Prelude.{◌≡◌, IfOk, string_bytes, true};
 ghost use Rattle.tso_terms.specs.Condition.{TruthClaim, claim_of};
@@ -15,7 +15,7 @@ use std::alloc::Global;
 use tso_terms::{NoMemory, Prop, Test};
 
 /// The answer of `why` to a test: a refutation of what it asks, under the plan's model; or an execution
-/// in which it is so, with choices that lead there; or that more cases have to be told apart than may be.
+/// in which it is so, with choices that lead there; or that the search gave up.
 /// With `assert` the status says where the test's condition isn't as it claims.
 ///
 /// Errors: out of memory only.

@@ -13,7 +13,6 @@ mod named;
 #[cfg(test)]
 mod orders;
 #[cfg(test)]
-mod refuted;
 #[cfg(test)]
 mod streams;
 #[cfg(test)]

@@ -1,5 +1,5 @@
 -- What is done with an open case, which is a branch of the search.
-use Rattle.std.specs.Prelude.{◌≡◌, ◌&&◌, Bool, true, false, if◌then◌else◌, List, [], ◌∷◌, ◌++◌, Option, Some, None}
+use Rattle.std.specs.Prelude.{◌≡◌, ◌&&◌, Bool, true, false, if◌then◌else◌, List, [], ◌∷◌, ◌++◌, map, Option, Some, None}
 use Rattle.std.specs.List.{list_any}
 use Rattle.tso_terms.specs.Litmus.{Litmus}
 use Rattle.tso_terms.specs.ProgramOrder.{is_read}
@@ -14,17 +14,25 @@ use Rattle.refutation_laws.specs.Refutations.{asked_claim}
 use Rattle.refutation_laws.specs.Models.{IsMet}
 use Rattle.refutation_laws.specs.declared.model.Model.{Model}
 use Rattle.refutation_laws.specs.inner.FullCases.{may_ask, is_answered, IsFull, IsSound, NoneBetween}
-use Rattle.possible_reads.specs.Facts.{Fact}
+use Rattle.possible_reads.specs.Facts.{Fact, given_by}
 use Rattle.possible_reads.specs.Possible.{sources_read}
 use Rattle.lemma_refutations.specs.Edges.{Knowledge, is_edge, is_between}
 use Rattle.lemma_refutations.specs.Refutations.{known_from, is_impossible, is_node, answers}
-use Rattle.refutations.specs.Trees.{node_of}
+use Rattle.lemma_refutations.specs.Refutations as spec
+use Rattle.refutations.specs.inner.Trees.{node_of}
 use Rattle.refutations.specs.declared.tree.Node.{Node}
 use Rattle.refutations.specs.declared.tree.Node.TheVariants.{ReadsFrom, Between}
-use Rattle.found_reasons.specs.Reasons.{below, given_at_first}
 use Rattle.found_reasons.specs.inner.Answered.{answers_told, as_question, as_node}
 use Rattle.found_reasons.specs.declared.reason.Step.{Step}
 use Rattle.found_reasons.specs.declared.reason.Step.TheVariants.{Leaf, Question, Allowed}
+
+-- what is given at the start: that what the test asks is true
+abbrev pub given_at_first : Litmus → List Fact
+given_at_first t = given_by t (asked_claim t.condition) true
+
+-- the branches of a node, each told by its facts
+abbrev pub below : Litmus → List Fact → spec.Node → List (List Fact)
+below t facts n = map (λ answer. answer ++ facts) (answers t (known_from t facts) n)
 
 -- below what is given at first, facts that answer questions of full cases
 pub record IsBranch (t : Litmus) (facts : List Fact) : Type 0 where

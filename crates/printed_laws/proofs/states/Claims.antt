@@ -298,7 +298,7 @@ module _ (t : Litmus) (condition : Condition) (s : Search) (e : Explanation) (js
   reason-is p (allowed r) same =
       sym same ∙ (ap (is_well condition.quantifier) (met-if-so e.model t condition s shown test is json out depth p r.order r.execution
       (subst (λ c. IsSoIn c (final_registers t r.order) (final_words t r.order)) is r.holds)) ∙ allowed-word r)
-  reason-is p (too_many more fewer printed) same = absurd (none-said printed)
+  reason-is p (too_many fewer printed) same = absurd (none-said printed)
 
   -- a state that decides it is that of an execution, so there is no refutation
   some-reason-is : (p : PrintsSomeOutcomes t s json out) → HeadlineOfReasons t e again other → IsDecided condition p.outcomes verdict → verdict ≡ other_verdict
@@ -310,7 +310,7 @@ module _ (t : Litmus) (condition : Condition) (s : Search) (e : Explanation) (js
       (among-those e.model t s p.outcomes depth p.tso p.sequential) (none-has r) in
       let no : ⊥ = cc in no)
   some-reason-is p (allowed r) d = sym d.verdict_is ∙ allowed-word r
-  some-reason-is p (too_many more fewer printed) d = absurd (none-said printed)
+  some-reason-is p (too_many fewer printed) d = absurd (none-said printed)
 
 pub verdicts-agree : TestsAreWithin → TruthIsShown → VerdictsAgree
 verdicts-agree within shown search plan set json again assert asserted input out other t condition verdict other_verdict
@@ -372,7 +372,7 @@ why-status t condition e json assert verdict _ _ is (allowed out r) says =
     (subst (EndsIn (verdict_tail json (is_well condition.quantifier true))) (sym r.shown.printed)
     (execution-end json e.model t condition r.shown.candidate r.choices is))
     (ends-so json verdict out says))
-why-status t condition e json assert verdict _ _ is (too_many more fewer) says =
+why-status t condition e json assert verdict _ _ is (too_many fewer) says =
     absurd (reasons.none-unfinished json verdict t e.cases (ends-so json verdict _ says))
 
 pub outcomes-tell : (search : Search) (set : Instructions) (json verdict : Bool)

@@ -18,7 +18,7 @@ ghost use Rattle.refutation_laws.specs.declared.model.Model.{Model};
 ghost use Rattle.scheduler.specs.Grammar.{SpellsChoices};
 ghost use Rattle.scheduler.specs.Printed.{printed_choices};
 ghost use Rattle.lemma_refutations.specs.Refutations.{Lemma, Node, refutes};
-ghost use Rattle.found_reasons.specs.Reasons.{HasMoreCases, most_cases};
+ghost use Rattle.found_reasons.specs.Reasons.{most_cases};
 ghost use Rattle.search_report.specs.PrintedReasons.{allowed_in, unfinished_cases_in};
 ghost use Rattle.search_report.specs.RefutationReports.{refutation_in};
 ghost use Rattle.command_line.specs.Explanation.{Explanation, IsExplanationWithinLimits};
@@ -84,12 +84,10 @@ pub fn reasons_for_one_input_agree()
     headlines_leave_one_text();
 }
 
-/// A text without a reason says how many cases could be told apart; more have to be, and not more than there are.
+/// A text without a reason says how many cases could be told apart; there can be more.
 pub fn a_text_without_a_reason_names_its_limit()
     ensures printed { (t : Litmus) (plan : Explanation) (json : Bool) (out : List ℕ) (said : GivesNoReason t plan json out)
         → out ≡ unfinished_cases_in json t plan.cases }
-    ensures more { (t : Litmus) (plan : Explanation) (json : Bool) (out : List ℕ) (said : GivesNoReason t plan json out)
-        → HasMoreCases plan.model t plan.cases }
     ensures fewer { (t : Litmus) (plan : Explanation) (json : Bool) (out : List ℕ) (said : GivesNoReason t plan json out)
         → plan.cases < most_cases t }
 {}

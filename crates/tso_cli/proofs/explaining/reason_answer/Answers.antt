@@ -47,9 +47,9 @@ returns-in_ok-text-in-Allowed c =
 pub returns-in_ok-text-in-TooMany : goal.returns-in_ok-text-in-TooMany
 returns-in_ok-text-in-TooMany c =
     let t = c.args.test.now in
-    let more = subst (λ cases. IsReason c.args.plan.model t cases reasons.TooMany) c.cases-cases.ensures.value
+    let fewer = subst (λ cases. IsReason c.args.plan.model t cases reasons.TooMany) c.cases-cases.ensures.value
     (subst (λ model. IsReason model t c.cases-cases.result reasons.TooMany) c.model-model.ensures
     (subst (IsReason c.model-model.result t c.cases-cases.result) c.in-TooMany.is c.in_ok-lemmas.ensures)) in
     let is : string_bytes c.in_ok-text-in-TooMany.text ≡ unfinished_cases_in c.args.json t c.args.plan.cases =
     c.in_ok-text-in-TooMany.ensures ∙ ap (λ cases. unfinished_cases_in c.args.json t cases) c.cases-cases.ensures.value in
-    subst (λ out. IsWhyAnswer t c.args.plan c.args.json c.args.assert out Unended) (sym is) (too_many more.0 more.1)
+    subst (λ out. IsWhyAnswer t c.args.plan c.args.json c.args.assert out Unended) (sym is) (too_many fewer)

@@ -26,17 +26,6 @@ impl<T: Copy> List<T> {
         }
     }
 
-    /// The same, for a list that doesn't grow.
-    ///
-    /// Errors: out of memory only.
-    pub fn filled(alloc: Global, count: usize, none: T) -> Result<List<T>, NoMemory> {
-        Ok(List {
-            items: vec![in alloc; none; count]?,
-            none,
-            is_refused: false,
-        })
-    }
-
     /// How many items there are.
     pub fn len(&self) -> usize {
         self.items.len()

@@ -1,9 +1,7 @@
 //! Rows of bits: each row is a set of small numbers.
-ghost use Rattle.std.specs.Iterator.{at_most};
 
 use crate::lists::{List, NONE};
 use std::alloc::Global;
-use tso_terms::NoMemory;
 
 /// Rows of bits, all of so many words.
 #[derive(Drop)]
@@ -18,38 +16,9 @@ pub fn bit(number: usize) -> u64 {
 }
 
 /// The lowest number of a word that isn't empty, where `word` is its place in its row.
-pub fn lowest(word: usize, bits: u64) -> usize {
+fn lowest(word: usize, bits: u64) -> usize {
     word.wrapping_mul(64)
         .wrapping_add(bits.trailing_zeros() as usize)
-}
-
-/// The numbers of a word of a row, the lowest one first.
-#[derive(Drop)]
-pub struct Numbers {
-    word: usize,
-    bits: u64,
-}
-
-impl Numbers {
-    /// The numbers that these bits are, where `word` is the word's place in its row.
-    pub fn of(word: usize, bits: u64) -> Numbers {
-        Numbers { word, bits }
-    }
-}
-
-impl Iterator for Numbers {
-    type Item = usize;
-
-    ghost remaining = { λ s. at_most s.bits };
-
-    fn next(&mut self) -> Option<usize> {
-        if self.bits == 0 {
-            return None;
-        }
-        let number = lowest(self.word, self.bits);
-        self.bits &= self.bits - 1;
-        Some(number)
-    }
 }
 
 impl Rows {
@@ -60,17 +29,6 @@ impl Rows {
             words: List::new(alloc, count.wrapping_mul(width), 0),
             width,
         }
-    }
-
-    /// So many empty rows for numbers below `most`.
-    ///
-    /// Errors: out of memory only.
-    pub fn empty(alloc: Global, count: usize, most: usize) -> Result<Rows, NoMemory> {
-        let width = most / 64 + 1;
-        Ok(Rows {
-            words: List::filled(alloc, count.wrapping_mul(width), 0)?,
-            width,
-        })
     }
 
     /// A word of a row, and no bits where there is no such row.
@@ -111,8 +69,8 @@ impl Rows {
         sum
     }
 
-    /// The lowest number of a row from this one on.
-    pub fn first_from(&self, row: usize, from: usize) -> Option<usize> {
+    /// The lowest number of a row from this one on, and `NONE` where it has none.
+    pub fn next(&self, row: usize, from: usize) -> usize {
         let start = from / 64;
         for word in start..self.width {
             let all = self.word(row, word);
@@ -122,20 +80,10 @@ impl Rows {
                 all
             };
             if bits != 0 {
-                return Some(lowest(word, bits));
+                return lowest(word, bits);
             }
         }
-        None
-    }
-
-    /// The lowest number of a row from this one on, and `NONE` where it has none.
-    pub fn next(&self, row: usize, from: usize) -> usize {
-        self.first_from(row, from).unwrap_or(NONE)
-    }
-
-    /// Whether a row has no number.
-    pub fn is_empty(&self, row: usize) -> bool {
-        self.first_from(row, 0).is_none()
+        NONE
     }
 
     /// Makes a row empty.
