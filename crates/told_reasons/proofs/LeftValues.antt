@@ -189,7 +189,7 @@ either-left None other n is or = or refl
 either-left (Some vs) other n is or = is
 
 module _ (no_two : NoTwoReadOneSource) (words : WordsAddUp) (reads : ReadsAddUp) (t : Litmus) (c : Candidate) (facts : List Fact)
-    (open : IsLeftOpen t c facts) where
+    (left_open : IsLeftOpen t c facts) where
   abbrev k : Knowledge
   k = known_from t facts
 
@@ -197,11 +197,11 @@ module _ (no_two : NoTwoReadOneSource) (words : WordsAddUp) (reads : ReadsAddUp)
   HasOne p = IsPossible (Some p.values) (value_left t c p.named)
 
   left-at : (n : Named) → IsPossible (values_left_at t k n) (value_left t c n)
-  left-at (Register core reg) = register-left no_two words reads t c open.allowed facts _ open.reads core.0 reg
+  left-at (Register core reg) = register-left no_two words reads t c left_open.allowed facts _ left_open.reads core.0 reg
   left-at (Location loc) =
       either-left (last_words t (filter is_on_events facts) (readings t facts) loc.0) (last_words t facts (readings t facts) loc.0) (word_in t c loc.0)
-      (word-left no_two words reads t c open.allowed facts _ open.reads (filter is_on_events facts) open.met loc.0)
-      (λ any. word-left no_two words reads t c open.allowed facts _ open.reads facts (open.asked loc.0 any) loc.0)
+      (word-left no_two words reads t c left_open.allowed facts _ left_open.reads (filter is_on_events facts) left_open.met loc.0)
+      (λ any. word-left no_two words reads t c left_open.allowed facts _ left_open.reads facts (left_open.asked loc.0 any) loc.0)
 
   with-left : (n : Named) (values : Values) (places : List Place) → IsPossible values (value_left t c n) → AllByRecursion HasOne places
       → AllByRecursion HasOne (with_place n values places)
@@ -229,4 +229,4 @@ module _ (no_two : NoTwoReadOneSource) (words : WordsAddUp) (reads : ReadsAddUp)
       go false here rest = rest
 
 pub listed-left : NoTwoReadOneSource → WordsAddUp → ReadsAddUp → ListedValuesAreAllLeft
-listed-left no_two words reads t c facts open = false-left no_two words reads t c facts open facts
+listed-left no_two words reads t c facts left_open = false-left no_two words reads t c facts left_open facts
