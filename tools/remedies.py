@@ -6,12 +6,13 @@ NEEDLESS = ("SFENCE", "LFENCE")
 
 # By how its name begins, an instruction without LOCK; the first that fits counts.
 UNLOCKED = (
-    (("CLFLUSH", "CLWB", "PREFETCH"), "%s isn't read: it changes no final state, so leave it out"),
-    (("J", "LOOP"), "%s isn't read: a program has no jumps: leave it out, write the one way that is taken, and ask in the condition for the "
-                    "values that lead there, as 0:EAX=1"),
+    (("CLFLUSH", "CLWB", "PREFETCH"), "%s isn't read: leave it out: it changes no final state; what counts tells is without it"),
+    (("J", "LOOP"), "%s isn't read: a program has no jumps: leave it out, and join what leads on here: 0:EAX=1 /\\ .. in exists and ~exists, "
+                    "~(0:EAX=1) \\/ .. in forall; tools/compiled --object FILE.s P0 P1 reads jumps and loops"),
     (("CMOV",), "%s isn't read: write MOV in a test where it moves, and leave it out in one where it doesn't; the condition asks for the value "
-                "that decides"),
-    (("CMP", "TEST"), "%s isn't read: a program has no compares: leave it out, and ask for the value in the condition, as 0:EAX=1"),
+                "that decides; tools/compiled --object FILE.s P0 P1 reads it"),
+    (("CMP", "TEST"), "%s isn't read: a program has no compares: leave it out, and join what it finds: 0:EAX=1 /\\ .. in exists and ~exists, "
+                      "~(0:EAX=1) \\/ .. in forall; tools/compiled --object FILE.s P0 P1 reads compares"),
     (("CALL",), "%s isn't read: write the instructions of what it calls in its place"),
     (("RET",), "%s isn't read: leave it out: a program ends with its last instruction"),
     (("SHL", "SHR"),

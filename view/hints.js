@@ -148,7 +148,7 @@ const OTHER_REPAIRS = [
   [/^'([);.])' stands after the end/, ([, sign]) => [new RegExp(`\\S*\\s*\\${sign}\\s*$`), part => part.trim().slice(0, -1).trim()]],
   [/a core is its number alone/, () => [/\bP(\d\s*:\s*\w+)/gi, '$1']],
   [/stands without \$/, () => [/=\s*\$(?=\d)/g, '=']],
-  [/ isn't 1 is written ~/, () => [/((?:\d\s*:\s*)?\[?\w+\]?)\s*(?:!=|<>)\s*(\d+)/g, '~($1=$2)']],
+  [/ isn't \S+ is written ~/, () => [/((?:\d\s*:\s*)?\[?\w+\]?)\s*(?:!=|<>)\s*(\d+)/g, '~($1=$2)']],
   [/written after its core and a colon/, () => [/\b(\d)\s*[.;, ]\s*(E[A-DS][IX])\b/gi, '$1:$2']],
 ];
 

@@ -55,8 +55,9 @@ STATUSES = {"run": (0, 1, 3), "trace": (0, 1, 3), "sweep": (0, 1, 3), "counts": 
 # Commands beside whose answer with status 0 a hint may stand.
 HINTED = ("run", "trace", "sweep", "outcomes", "why")
 
-# What a condition may name that keeps its initial value, and the commands of which it comes up; the last is rare beside a search.
-KEPT = {"a location that nothing uses": HINTED, "a register that nothing writes": HINTED, "a location that nothing writes": ("run", "trace")}
+# What may mislead in a test's names, and the commands of which it comes up; the last ones are rare beside a search.
+KEPT = {"a location that nothing uses": HINTED, "a register that nothing writes": HINTED, "a location that nothing writes": ("run", "trace"),
+        "two values of one place": ("run", "trace"), "names that differ in case alone": ("run",)}
 
 AMOUNTS = ("none", "one", "several")
 

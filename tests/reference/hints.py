@@ -7,6 +7,8 @@ from . import litmus, printing, seen
 UNUSED = "hint: line %d: the condition names %s, which no program uses and no initial state sets: it stays 0; write a name that a program has\n"
 KEPT_REGISTER = "hint: line %d: the condition names %d:%s, which no instruction of core %d writes: it stays %d\n"
 KEPT_LOCATION = "hint: line %d: the condition names %s, which no instruction writes: it stays %d\n"
+NEVER_TRUE = "hint: line %d: %s=%d /\\ %s=%d is never true: two values of one place are joined by \\/\n"
+ALIKE = "hint: %s and %s are two locations, whose names differ in case alone: write one of them where one is meant\n"
 LEFT_OUT = "hint: line %d: locations lists %s, which the states leave out: --show %s shows it\n"
 NEVER = "hint: Never tells of %s only:%s outcomes --depth %d tells of all runs\n"
 MORE_SEEDS = " more seeds (--seeds 1000) take milliseconds, and"
@@ -22,7 +24,8 @@ def beside(command, json, depth, test, output, show=printing.CONDITION):
     if json or command not in ("run", "trace", "sweep", "outcomes", "why"):
         return b""
     for kind, told in (("a location that nothing uses", unused(test)), ("a register that nothing writes", kept_register(test)),
-                       ("a location that nothing writes", kept_location(test))):
+                       ("a location that nothing writes", kept_location(test)), ("two values of one place", never_true(test)),
+                       ("names that differ in case alone", alike(test))):
         if told is not None:
             seen.note("hint beside status 0", "%s, of %s" % (kind, command))
             return told.encode()
@@ -63,6 +66,51 @@ def kept_location(test):
     for atom, line in test.atoms:
         if atom[0] == "location" and not test.is_stored(atom[1]) and test.words[atom[1]] != atom[2]:
             return KEPT_LOCATION % (line, test.locations[atom[1]], test.words[atom[1]])
+    return None
+
+
+def never_true(test):
+    """The hint on the first two atoms of the condition that can't both be true, and of which neither is enough; or None."""
+    found = None if test.proposition is None else contradiction(test.proposition)
+    if found is None:
+        return None
+    *place, value = found[0]
+    line = next(line for atom, line in test.atoms if list(atom[:-1]) == place)
+    name = "%d:%s" % (place[1], litmus.REGISTERS[place[2]]) if place[0] == "register" else test.locations[place[1]]
+    return NEVER_TRUE % (line, name, value, name, found[1])
+
+
+def contradiction(proposition):
+    """The first atom that another one contradicts, which is joined to it by `/\\`, and that one's value; or None."""
+    kind, *inside = proposition
+    if kind not in ("not", "and", "or"):
+        return None
+    parts = [inside[0]] if kind == "not" else inside[0]
+    for at, part in enumerate(parts):
+        beside = [atom for other in parts[at + 1:] for atom in asked(other)] if kind == "and" else []
+        for atom in asked(part):
+            other = next((one for one in beside if one[:-1] == atom[:-1] and one[-1] != atom[-1]), None)
+            if other is not None:
+                return atom, other[-1]
+        found = contradiction(part)
+        if found is not None:
+            return found
+    return None
+
+
+def asked(proposition):
+    """The atoms of registers and locations that a proposition asks for in any case, in their order."""
+    if proposition[0] == "and":
+        return [atom for part in proposition[1] for atom in asked(part)]
+    return [proposition] if proposition[0] in ("register", "location") else []
+
+
+def alike(test):
+    """The hint on the first location whose name differs from an earlier one's in case alone, or None."""
+    for at, name in enumerate(test.locations):
+        other = next((other for other in test.locations[:at] if other.lower() == name.lower()), None)
+        if other is not None:
+            return ALIKE % (other, name)
     return None
 
 

@@ -27,7 +27,7 @@ const NOTHING: &str = "{} isn't read: it changes no final state, so leave it out
 const LEFT_OUT: &str = "{} changes no final state: leave it out, with what stands beside it";
 
 const COMPARES_LOCATION: &str =
-    "{} isn't read: a program has no compares: load the location here, as MOV EAX,[{}], and ask for its value in the condition, as 0:EAX=1";
+    "{} isn't read: a program has no compares: load the location here, as MOV EAX,[{}], and join what it has: 0:EAX=1 /\\ .. in exists and ~exists, ~(0:EAX=1) \\/ .. in forall; tools/compiled --object FILE.s P0 P1 reads it";
 
 const COMPUTES: &str =
     "{} isn't read: leave it out, and where its result is used write the number that is meant, as MOV [x],$2";

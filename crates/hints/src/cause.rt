@@ -2,12 +2,15 @@
 //! input.
 
 use crate::body::{body_of, condition_of};
+use crate::never_true::{cause_of, contradicted};
 use crate::orders::{first_line, from_line_at_fault, location_in};
 use crate::quotes::first_word;
 use crate::reader::Request;
 use crate::search_end::SearchEnd;
 use crate::unended::count_instructions;
-use crate::unused::{first_unused, location_named, uses_all_locations};
+use crate::unused::{
+    first_alike, first_unused, has_alike_names, location_named, uses_all_locations,
+};
 use crate::unwritten::{first_unwritten, names_unwritten};
 use litmus_reader::Fault;
 use litmus_tokens::{Instructions, tokens_of};
@@ -95,6 +98,19 @@ pub enum Cause {
         length: usize,
         value: u32,
     },
+    /// The condition asks a location or a core's register for both of these values at once: its name there is so many bytes
+    /// of the input, after so many others.
+    NeverTrue {
+        first: usize,
+        length: usize,
+        register: Option<(Core, Reg)>,
+        values: (u32, u32),
+    },
+    /// Two locations have names that differ in case alone: each is so many bytes of the input, after so many others.
+    AlikeNames {
+        firsts: (usize, usize),
+        length: usize,
+    },
     /// The test lists a register or a location that its states leave out: its name there is so many bytes of
     /// the input, after so many others.
     LeftOut {
@@ -126,35 +142,37 @@ impl Cause {
         }
     }
 
-    /// What may mislead in the condition of a test, which this text spells: that it names a location that no program
-    /// uses and no initial state sets; else a register that no instruction of its core writes; else that it asks
-    /// another value of a location than the one that it keeps. Of several of one kind the first. `None` where there is
-    /// none.
+    /// What may mislead in a test, which this text spells: that its condition names a location that no program uses and no
+    /// initial state sets; else a register that no instruction of its core writes; else that it asks another value of a location
+    /// than the one that it keeps; else two values of one place at once; else that names of locations differ in case alone. Of
+    /// several of one kind the first. `None` where there is none.
     ///
     /// Errors: out of memory only.
-    pub fn of_condition(
-        alloc: Global,
-        test: &Test,
-        text: &[u8],
-    ) -> Result<Option<Cause>, NoMemory> {
-        let Some(cond) = test.cond() else {
-            return Ok(None);
+    pub fn of_names(alloc: Global, test: &Test, text: &[u8]) -> Result<Option<Cause>, NoMemory> {
+        let (is_kept, contradicted) = match test.cond() {
+            Some(cond) => (
+                !uses_all_locations(test) || names_unwritten(test, &cond.prop),
+                contradicted(&cond.prop),
+            ),
+            None => (false, None),
         };
-        let uses_all = uses_all_locations(test);
         // Of most tests nothing is to be told, which is known without reading their text again.
-        if uses_all && !names_unwritten(test, &cond.prop) {
+        if !is_kept && contradicted.is_none() && !has_alike_names(test) {
             return Ok(None);
         }
         let body = body_of(text);
         let condition = condition_of(body);
-        if !uses_all {
-            let tokens = tokens_of(alloc, Instructions::All, body)?;
-            let ending = tokens_of(alloc, Instructions::All, condition)?;
-            if let Some(cause) = first_unused(test, text, &tokens.items, &ending.items) {
-                return Ok(Some(cause));
-            }
-        }
-        first_unwritten(alloc, test, text, condition)
+        let tokens = tokens_of(alloc, Instructions::All, body)?;
+        let ending = tokens_of(alloc, Instructions::All, condition)?;
+        let kept = match first_unused(test, text, &tokens.items, &ending.items) {
+            None => first_unwritten(test, text, condition, &ending.items),
+            unused => unused,
+        };
+        Ok(match (kept, contradicted) {
+            (Some(kept), _) => Some(kept),
+            (None, Some((atom, other))) => cause_of(test, text, &ending.items, atom, other),
+            (None, None) => first_alike(test, text, &tokens.items),
+        })
     }
 
     /// That the choices of this text end before the test, on a machine with store buffers or without. These of them

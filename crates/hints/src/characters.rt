@@ -6,6 +6,7 @@ use crate::place::Place;
 use crate::quotes::first_bytes;
 use crate::signs::DIVIDER;
 use crate::tables::{Alike, said_of_front};
+use crate::values::says_unequal;
 
 /// Characters of a test's signs, and what stands for them.
 static SIGNS: [Alike; 10] = [
@@ -75,9 +76,17 @@ pub fn say_character(line: &mut Line, place: &Place<'_>, byte: u8) {
         .unwrap_or("leave it out, or write it in ASCII; it may stand only in a comment");
     if byte == 27 {
         line.say(COLOURS);
-    } else if !says_wide(line, place) && !says_foreign_at(line, place, said) {
+    } else if !says_unequal_sign(line, place)
+        && !says_wide(line, place)
+        && !says_foreign_at(line, place, said)
+    {
         line.say_number("the byte {} can't stand here", usize::from(byte));
     }
+}
+
+/// Says of U+2260 between a place and a number how that is written. Whether it stands there.
+fn says_unequal_sign(line: &mut Line, place: &Place<'_>) -> bool {
+    place.rest.starts_with(b"\xe2\x89\xa0") && says_unequal(line, place, 3)
 }
 
 /// Says of a sign of ASCII in the width of Chinese and Japanese characters. Whether one stands there.

@@ -20,7 +20,7 @@ use crate::quotes::{
 use crate::registers::is_register;
 use crate::signs::DIVIDER;
 use crate::tables::{Alike, is_exactly_one_of, is_one_of, said_of};
-use crate::values::{EQUAL, VALUES, said_of_further_value};
+use crate::values::{EQUAL, VALUES, said_of_further_value, says_equal_places, says_unequal};
 use litmus_tokens::{Instructions, Symbol, is_symbol, line_of, tokens_of};
 use std::alloc::Global;
 use tso_terms::names::is_location_name;
@@ -145,7 +145,7 @@ fn line_of_open_bracket(alloc: Global, place: &Place<'_>) -> Result<Option<usize
 
 /// Says of a number, a value or a connective of another form, within a condition or after it. Whether one is there.
 fn says_foreign_form(line: &mut Line, place: &Place<'_>) -> bool {
-    if says_digit_first(line, place) {
+    if says_digit_first(line, place) || says_equal_places(line, place) {
         return true;
     }
     let Some(said) = said_of_connective(place).or(said_of_further_value(place)) else {
@@ -175,6 +175,10 @@ fn said_of_connective(place: &Place<'_>) -> Option<&'static str> {
 /// Says of a token that doesn't fit, by what comes before it, where that tells what was meant. Whether it does.
 fn says_misfit(line: &mut Line, place: &Place<'_>) -> bool {
     let (token, last) = (place.token, place.last_word);
+    let is_unequal = is_one_of("ne neq isnt", token) || place.rest.starts_with(b"~=");
+    if is_unequal && says_unequal(line, place, token.len().max(2)) {
+        return true;
+    }
     let (sentence, named) = match token.first() {
         Some(b',' | b';') => (JOIN, token),
         Some(b':') if is_one_of("exists forall", last) => (LEAVE_OUT, token),

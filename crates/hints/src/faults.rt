@@ -82,6 +82,9 @@ pub const DIGIT_FIRST: &str =
 /// What is said of a word in the place of a number.
 pub const NO_VALUE: &str = "{} is no value: a value is a number, as 0 or 1";
 
+/// What is said of a location that is called by a word of conditions.
+pub const WORD_OF_CONDITIONS: &str = "{} is a word of conditions: give the location another name";
+
 /// What is said of a nested comment.
 pub const NESTED: &str =
     "*) ends no comment here: a comment ends at its first *) and can't contain another comment";

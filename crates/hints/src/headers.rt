@@ -7,6 +7,7 @@ use crate::divider::Asked;
 use crate::faults::MARKDOWN;
 use crate::kinds::{KERNEL, has_instructions, has_kernel_words, is_model, says_kind};
 use crate::line::{Filling, Line};
+use crate::markup::says_of_conflict;
 use crate::mnemonics::is_narrow_name;
 use crate::place::Place;
 use crate::quotes::{
@@ -43,11 +44,11 @@ static HEADERS: [Alike; 5] = [
     ),
     Alike(
         "C",
-        "C is a language: the tool compiled reads such a test; tso reads programs of X86 instructions, below a line X86 NAME",
+        "C is a language: tools/compiled FILE reads such a test; tso reads programs of X86 instructions, below a line X86 NAME",
     ),
     Alike(
         LANGUAGES,
-        "{} is a language: write its programs as X86 instructions, below a line X86 NAME: a store is MOV [x],$1, a load MOV EAX,[x], a fence MFENCE; the tool compiled reads C tests alone",
+        "{} is a language: write its programs as X86 instructions, below a line X86 NAME: a store is MOV [x],$1, a load MOV EAX,[x], a fence MFENCE; tools/compiled reads tests in C",
     ),
 ];
 
@@ -67,6 +68,21 @@ const NO_HEADER: &str = "no header: write a first line X86 NAME before it, as X8
 const OTHER_HEADER: &str =
     "{} begins no test: write X86, a space and the test's name in place of this line, as X86 SB";
 
+/// How many bytes of a file are looked through for a byte 0, which no text has.
+const HEAD: usize = 512;
+
+const OBJECT: &str =
+    "this is a program or an object file, and no text: give tso the text of a test, which begins with X86 and a name; tools/compiled --object FILE P0 P1 reads functions of an object";
+
+const COMPRESSED: &str =
+    "this file is compressed by gzip: give tso the text in it, as in: gzip -dc FILE | tso run";
+
+const PICTURE: &str =
+    "this is a picture, and no text: give tso the text of a test, which begins with X86 and a name";
+
+const NO_TEXT: &str =
+    "this is no text, since a byte 0 is in it: give tso the text of a test, which begins with X86 and a name";
+
 const NO_TEST: &str =
     "no line begins a test, as X86 SB does: give tso the text of a test: a line X86 NAME, { }, a row P0 | P1 ; and rows of instructions, as MOV [x],$1 | MOV [y],$1 ;";
 
@@ -84,7 +100,8 @@ pub fn no_header(line: &mut Line, asked: Asked, place: &Place<'_>) {
         line.say(COLOURS);
     } else if rest.starts_with(b"```") {
         line.say(MARKDOWN);
-    } else if !says_other_kind(line, rest)
+    } else if !(rest.starts_with(b"<<<<<<<") && says_of_conflict(line, place))
+        && !says_other_kind(line, rest)
         && !says_above(line, rest, place.line())
         && !says_foreign_name(line, header)
     {
@@ -114,15 +131,35 @@ fn no_text(line: &mut Line, asked: Asked, comments: &[u8]) {
     }
 }
 
+/// What is said of a file that is no text, by its first bytes.
+pub fn said_of_binary(text: &[u8]) -> Option<&'static str> {
+    if text.starts_with(b"\x7fELF") {
+        Some(OBJECT)
+    } else if text.starts_with(b"\x1f\x8b") {
+        Some(COMPRESSED)
+    } else if text.starts_with(b"\x89PNG")
+        || text.starts_with(b"GIF8")
+        || text.starts_with(b"\xff\xd8\xff")
+    {
+        Some(PICTURE)
+    } else {
+        None
+    }
+}
+
 /// What is said of a text that isn't in UTF-8, or whose lines end otherwise.
 fn said_of_encoding(text: &[u8]) -> Option<&'static str> {
     let header = up_to(text, b'\n');
-    if is_utf_16(text) {
+    if let Some(said) = said_of_binary(text) {
+        Some(said)
+    } else if is_utf_16(text) {
         Some(
             "the file is in UTF-16: save it as UTF-8, or convert it: iconv -f UTF-16 -t UTF-8 FILE",
         )
     } else if text.starts_with(b"\xef\xbb\xbf") {
         Some("a byte order mark stands before X86: save the file without it")
+    } else if first_bytes(text, HEAD).contains(&0) {
+        Some(NO_TEXT)
     } else if header
         .strip_suffix(b"\r")
         .unwrap_or(header)
@@ -134,11 +171,19 @@ fn said_of_encoding(text: &[u8]) -> Option<&'static str> {
     }
 }
 
-/// Whether a text is in UTF-16: by its byte order mark, or by a byte 0 at its beginning.
+/// Whether a text is in UTF-16: by its byte order mark, or by bytes 0 beside its first two characters of ASCII.
 fn is_utf_16(text: &[u8]) -> bool {
-    text.starts_with(b"\xff\xfe")
-        || text.starts_with(b"\xfe\xff")
-        || first_bytes(text, 4).contains(&0)
+    match text {
+        [0xff, 0xfe, ..] | [0xfe, 0xff, ..] => true,
+        [first, 0, second, 0, ..] | [0, first, 0, second, ..] => is_of_text(*first)
+            && is_of_text(*second),
+        _ => false,
+    }
+}
+
+/// Whether a byte is a character of a text in ASCII.
+fn is_of_text(byte: u8) -> bool {
+    byte.is_ascii_graphic() || byte.is_ascii_whitespace()
 }
 
 /// Says of a character that isn't ASCII in a header line. Whether one stands in such a line.

@@ -9,13 +9,14 @@ use crate::choices::{say_choices, too_many_steps};
 use crate::divider::Asked;
 use crate::faults::say_fault;
 use crate::line::Line;
+use crate::never_true::never_both;
 use crate::orders::say_order;
 use crate::place::Place;
 use crate::printing::printed;
 use crate::quotes::{first_bytes, last_bytes};
 use crate::search_end::search_ends;
 use crate::unended::{MORE_CASES, NO_CHOICES, choices_end, never_seen};
-use crate::unused::{UNUSED, say_named};
+use crate::unused::{UNUSED, say_alike, say_named};
 use crate::unwritten::{keeps_location, keeps_register};
 use std::alloc::Global;
 use tso_terms::NoMemory;
@@ -105,6 +106,13 @@ fn say_cause(alloc: Global, line: &mut Line, cause: &Cause, input: &[u8]) -> Res
             length,
             value,
         } => keeps_location(line, input, *first, *length, *value),
+        Cause::NeverTrue {
+            first,
+            length,
+            register,
+            values,
+        } => never_both(line, input, (*first, *length), *register, *values),
+        Cause::AlikeNames { firsts, length } => say_alike(line, input, *firsts, *length),
         Cause::LeftOut {
             first,
             length,

@@ -4,14 +4,14 @@ use crate::tables::Alike;
 
 /// Of what isn't done one instruction after the other.
 pub const STRAIGHT: &str =
-    "{} isn't read: a program has no branches: leave it out, write the one way that is taken, and ask in the condition for the value that leads there, as 0:EAX=1";
+    "{} isn't read: a program has no branches: write the way that is taken, and join what leads there: 0:EAX=1 /\\ .. in exists and ~exists, ~(0:EAX=1) \\/ .. in forall; tools/compiled FILE.c reads C";
 
 /// Of what is done again and again.
 pub const LOOP: &str =
-    "{} isn't read: a program has no loops: write what one round does, where it waits a load, as MOV EAX,[x], and ask in the condition for the value that ends it, as 0:EAX=1";
+    "{} isn't read: a program has no loops: write one round, with a load where it waits, and join what ends it: 0:EAX=1 /\\ .. in exists and ~exists, ~(0:EAX=1) \\/ .. in forall; tools/compiled FILE.c reads C";
 
 const JUMP: &str =
-    "{} isn't read: a program has no jumps: leave it out, write the one way that is taken, and ask in the condition for the values that lead there, as 0:EAX=1";
+    "{} isn't read: a program has no jumps: leave it out, and join what leads on here: 0:EAX=1 /\\ .. in exists and ~exists, ~(0:EAX=1) \\/ .. in forall; tools/compiled --object FILE.s P0 P1 reads jumps and loops";
 
 /// Of a sum of two registers.
 pub const SUM_OF_REGISTERS: &str =
@@ -26,13 +26,14 @@ pub const COMPARE_AND_EXCHANGE_OF_ALL: &str =
     "{} isn't read: write LOCK CMPXCHG [x],EBX, with the expected word in EAX, which gets the old one, and the new word in EBX";
 
 const PAIR_OF_WORDS: &str =
-    "{} isn't read: it compares and writes more than 32 bits, and words have only 32 here";
+    "{} isn't read: it compares and writes more than 32 bits, and words have only 32 here: where these will do write LOCK CMPXCHG [x],EBX; tools/compiled --object FILE.s P0 P1 reads it";
 
 const COMPARE: &str =
-    "{} isn't read: a program has no compares: leave it out, and ask for the value in the condition, as 0:EAX=1";
+    "{} isn't read: a program has no compares: leave it out, and join what it finds: 0:EAX=1 /\\ .. in exists and ~exists, ~(0:EAX=1) \\/ .. in forall; tools/compiled --object FILE.s P0 P1 reads compares";
 
 /// Of a label.
-pub const LABEL: &str = "{}: is a label, and a program has no jumps: leave it out";
+pub const LABEL: &str =
+    "{} is a label, and a program has no jumps: leave it out, and join what leads on here: 0:EAX=1 /\\ .. in exists and ~exists, ~(0:EAX=1) \\/ .. in forall; tools/compiled --object FILE.s P0 P1 reads jumps and loops";
 
 const ARITHMETIC: &str =
     "{} isn't read: for a location write a load, as MOV EAX,[x], and a store of the result, as MOV [x],$1; for a register MOV EAX,$1";
@@ -152,21 +153,25 @@ pub static OTHERS: [Alike; 27] = [
 pub const ALONE: &str = "{} stands alone in its cell";
 
 /// By how its name begins, an instruction that isn't read without LOCK.
-pub static UNLOCKED: [Alike; 10] = [
+pub static UNLOCKED: [Alike; 11] = [
     Alike("MFENCE", ALONE),
     Alike(
         "XADD",
         "{} isn't read without LOCK, which makes it one step: LOCK XADD [x],EAX",
     ),
     Alike(
-        "NOP PAUSE CLFLUSH CLWB PREFETCH",
+        "NOP PAUSE",
         "{} isn't read: it changes no final state, so leave it out",
+    ),
+    Alike(
+        "CLFLUSH CLWB PREFETCH",
+        "{} isn't read: leave it out: it changes no final state; what counts tells is without it",
     ),
     Alike("CMPXCHG8B CMPXCHG16B", PAIR_OF_WORDS),
     Alike("J LOOP", JUMP),
     Alike(
         "CMOV",
-        "{} isn't read: write MOV in a test where it moves, and leave it out in one where it doesn't; the condition asks for the value that decides",
+        "{} isn't read: write MOV in a test where it moves, and leave it out in one where it doesn't; the condition asks for the value that decides; tools/compiled --object FILE.s P0 P1 reads it",
     ),
     Alike("CMP TEST SETE SETNE SETZ SETNZ", COMPARE),
     Alike(

@@ -2,7 +2,9 @@
 
 use crate::c_forms::is_type;
 use crate::characters::says_foreign_in;
-use crate::faults::{ADDRESS, NO_ARRAYS, NO_VALUE, line_of_initial_state, says_digit_first};
+use crate::faults::{
+    ADDRESS, NO_ARRAYS, NO_VALUE, WORD_OF_CONDITIONS, line_of_initial_state, says_digit_first,
+};
 use crate::keywords::is_instruction;
 use crate::line::{Filling, Line};
 use crate::place::Place;
@@ -135,6 +137,9 @@ fn misfit(place: &Place<'_>) -> &'static str {
         Some(b'[') if after_equals => ADDRESS,
         Some(b'[') if after_name => NO_ARRAYS,
         Some(b'{') if after_equals => NO_ARRAYS,
+        Some(b'(') if is_one_of("PTE TLB", last) => {
+            "{} stands behind a word for page tables, and there are none here: leave out the whole item"
+        }
         Some(b'(' | b'{') => "{}: leave out the brackets: an item is x=1, [x]=1 or 0:EAX=1",
         _ => ITEM,
     }
@@ -165,7 +170,7 @@ fn misplaced_name(place: &Place<'_>) -> &'static str {
     } else if is_register {
         "{}: a register is written after its core and a colon, as 0:EAX=1; a location needs another name"
     } else if is_name(token) && !is_location_name(token) {
-        "{} is a word of conditions: give the location another name"
+        WORD_OF_CONDITIONS
     } else {
         ITEM
     }

@@ -4,11 +4,12 @@
 use crate::cycles::says_cycle;
 use crate::heads::{DISASSEMBLY, said_of_line};
 use crate::keywords::is_instruction;
-use crate::line::Line;
+use crate::line::{Filling, Line};
 use crate::quotes::{
     after_byte, digits_and_letters, first_bytes, first_word, has, is_all_digits, is_bare,
     last_bytes, up_to,
 };
+use crate::signs::is_core;
 use crate::tables::{Alike, is_exactly_one_of, is_one_of, said_of};
 use tso_terms::names::continues_name;
 
@@ -37,11 +38,15 @@ const DIFFERENCE: &str =
 const CONDITION: &str =
     "a condition alone is no test: above it write a line X86 NAME, a line { }, a row P0 | P1 ; and rows of instructions, as MOV [x],$1 | MOV [y],$1 ;";
 
+/// Of a text of another kind, which is named.
+const OTHER: &str =
+    "this is {}, and no test: give tso the text of a test, which begins with X86 and a name";
+
 const ASSEMBLY: &str =
-    "this is an assembler's file, and no test: write a line X86 NAME, a line { }, and each core's instructions into a column below P0 | P1 ;";
+    "this is an assembler's file, and no test: tools/compiled --object FILE.s P0 P1 reads it, with its jumps; or write a line X86 NAME, a line { }, and each core's instructions into a column below P0 | P1 ;";
 
 const INSTRUCTIONS: &str =
-    "instructions alone are no test: write a line X86 NAME, a line { }, and each core's instructions into a column below P0 | P1 ;";
+    "instructions alone are no test: write a line X86 NAME, a line { }, and each core's instructions into a column below P0 | P1 ; those with jumps tools/compiled --object FILE.s P0 P1 reads";
 
 const PAPER: &str =
     "this is a program as papers have it: write a line X86 NAME, a line { }, a row P0 | P1 ; and a column for each thread: a store x := 1 is MOV [x],$1, a load r := y MOV EAX,[y], a fence MFENCE";
@@ -50,10 +55,10 @@ const STATEMENT: &str =
     "this is assembly within C, and no test: write a line X86 NAME, a line { }, and each core's instructions, without \" \", into a column below P0 | P1 ;";
 
 const SOURCE_IN_C: &str =
-    "this is C: tso reads tests of X86 instructions; the tool compiled reads C, with a function for each core: P0, P1 and so on";
+    "this is C: tools/compiled FILE.c reads it, with a function for each core: P0, P1 and so on; tso reads tests of X86 instructions";
 
 const CPP: &str =
-    "this is C++, which no tool here reads: write a line X86 NAME, a line { }, and each thread's accesses as instructions into a column below P0 | P1 ;";
+    "this is C++: tools/compiled --object FILE.o P0 P1 reads what g++ -c makes of it; or write a line X86 NAME, a line { }, and each thread's accesses as instructions into a column below P0 | P1 ;";
 
 const PROGRAM: &str =
     "this is a program in a language that no tool here reads: write a line X86 NAME, a line { }, and each thread's accesses as instructions into a column below P0 | P1 ;";
@@ -62,7 +67,7 @@ const DATA: &str =
     "this is a test in another form, and no tool here reads it: write a line X86 NAME, a line { } with what locations begin with, and each thread's instructions into a column below P0 | P1 ;";
 
 const RUST: &str =
-    "this is Rust, which no tool here reads: write a line X86 NAME, a line { }, and each thread's accesses as instructions into a column below P0 | P1 ;";
+    "this is Rust: tools/compiled --object FILE.o P0 P1 reads the object that rustc makes of it; or write a line X86 NAME, a line { }, and each thread's accesses as instructions into a column below P0 | P1 ;";
 
 /// Words with which lines of reports begin.
 const REPORTED: &str =
@@ -112,9 +117,19 @@ static KINDS: [Alike; 11] = [
 
 /// Says of a text that is no test what it is, if that is known. Whether it is.
 pub fn says_kind(line: &mut Line, text: &[u8]) -> bool {
+    let is_markdown = is_markdown(text);
     let text = after_comments(text);
     let head = up_to(text, b'\n').trim_ascii();
     if says_cycle(line, head) {
+        return true;
+    }
+    let other = if is_markdown {
+        Some("a text in Markdown")
+    } else {
+        kind_by_signs(text, head)
+    };
+    if let Some(kind) = other {
+        line.say_with(OTHER, &[Filling::Text(kind)]);
         return true;
     }
     let said = said_of_line(text, head)
@@ -126,6 +141,79 @@ pub fn says_kind(line: &mut Line, text: &[u8]) -> bool {
         None => return false,
     }
     true
+}
+
+/// Whether a text is in Markdown: a heading begins it, and a further one or a text in a frame comes below.
+fn is_markdown(text: &[u8]) -> bool {
+    text.starts_with(b"# ") && (has(text, b"\n## ") || has(text, b"\n```"))
+}
+
+/// What a text is that isn't told by words, by its signs and its first line.
+fn kind_by_signs(text: &[u8], head: &[u8]) -> Option<&'static str> {
+    let next = after_byte(text, b'\n');
+    if has(head, b"<svg") || (head.starts_with(b"<?xml") && has(text, b"<svg")) {
+        Some("a picture in SVG")
+    } else if is_json(text) {
+        Some("JSON")
+    } else if has_instructions(text) {
+        None
+    } else if has_recipe(text) {
+        Some("a Makefile")
+    } else if is_exactly_one_of("---", head) || has_keys(head, next) {
+        Some("a file in YAML")
+    } else {
+        None
+    }
+}
+
+/// Whether a text is JSON, but for a test in it.
+fn is_json(text: &[u8]) -> bool {
+    let inside = text.strip_prefix(b"[").unwrap_or(text).trim_ascii_start();
+    match inside.strip_prefix(b"{") {
+        Some(inside) => {
+            inside.trim_ascii_start().starts_with(b"\"")
+                && !has(text, b"\"threads\"")
+                && !has(text, b"\"init\"")
+        }
+        None => false,
+    }
+}
+
+/// Words with which a command of a Makefile begins.
+const COMMANDS: &str =
+    "@ rm cp mkdir cd echo make cc gcc g++ clang clang++ python python3 tar touch install";
+
+/// Whether a text has a command of a Makefile, behind a tab.
+fn has_recipe(text: &[u8]) -> bool {
+    for row in text.split(|byte| *byte == b'\n') {
+        let first = first_word(row);
+        if row.starts_with(b"\t")
+            && (first.starts_with(b"./")
+                || first.starts_with(b"$(")
+                || is_one_of(COMMANDS, first))
+        {
+            return true;
+        }
+    }
+    false
+}
+
+/// Whether a text begins with two keys of a file in YAML, and has lines below a key.
+fn has_keys(head: &[u8], next: &[u8]) -> bool {
+    is_key(head)
+        && is_key(up_to(next, b'\n').trim_ascii())
+        && (has(next, b"\n  ") || has(next, b"\n- "))
+}
+
+/// Whether a line has a key and a colon, and behind it a space or nothing.
+fn is_key(line: &[u8]) -> bool {
+    let key = up_to(line, b':');
+    let value = after_byte(line, b':');
+    is_bare(key)
+        && key.len() < line.len()
+        && (value.is_empty() || value.starts_with(b" "))
+        && !value.contains(&b'=')
+        && !is_core(key)
 }
 
 /// What stands after lines of comments, as other languages have them, or all where nothing does.

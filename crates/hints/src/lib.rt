@@ -42,6 +42,7 @@ mod meant;
 mod mnemonics;
 mod moves;
 mod near;
+mod never_true;
 mod numbers;
 mod openings;
 mod operand;

@@ -53,9 +53,17 @@ fn say_no_command(line: &mut Line, name: &str) {
         return;
     }
     for command in &SUBCOMMANDS {
-        if command.name().as_bytes().eq_ignore_ascii_case(word) {
+        if command
+            .name()
+            .as_bytes()
+            .eq_ignore_ascii_case(without_hyphens(word))
+        {
             return line.say_with(
-                "{}: write {}, in small letters",
+                if word.starts_with(b"-") {
+                    "{}: a command has no hyphens: write tso {}"
+                } else {
+                    "{}: write {}, in small letters"
+                },
                 &[Filling::Named(word), Filling::Text(command.name())],
             );
         }

@@ -4,8 +4,10 @@ use crate::characters::says_foreign;
 use crate::faults::MARKDOWN;
 use crate::hinting::NOTHING_KNOWN;
 use crate::line::Line;
-use crate::quotes::{after_byte, first_bytes, first_word, has, is_all_digits, is_choice, up_to};
-use crate::tables::{Alike, said_of_front};
+use crate::quotes::{
+    after_byte, begins_with_digit, first_bytes, first_word, has, is_all_digits, is_choice, up_to,
+};
+use crate::tables::{Alike, is_exactly_one_of, is_one_of, said_of_front};
 use litmus_tokens::word as word_value;
 use order_builder::OrderFault;
 
@@ -134,7 +136,32 @@ fn said_of_entry(entry: &[u8]) -> &'static str {
     } else if has(entry, b"=0x") || has(entry, b"=-") {
         "{}: a value is decimal and has no sign, as in P0:1 R x=0"
     } else {
+        said_of_form(entry)
+    }
+}
+
+/// What is said of a line without the form of an entry, by the first part that it lacks.
+fn said_of_form(entry: &[u8]) -> &'static str {
+    let place = up_to(entry, b' ');
+    let access = up_to(after_byte(entry, b' '), b' ');
+    if !begins_with_core(place) {
+        "{}: an entry begins with its core and its place in that core's program, as P0:1 W x=1"
+    } else if !place.contains(&b':') {
+        "{}: a colon and the place in the core's program, from 0, stand behind the core, as P0:1 W x=1"
+    } else if is_one_of("R W LR LW F", access) && !is_exactly_one_of("R W LR LW F", access) {
+        "{}: R, W, LR, LW and F are written in capitals, as P0:1 W x=1"
+    } else if is_exactly_one_of("R W LR LW", access) && !entry.contains(&b'=') {
+        "{}: its location, = and its value stand behind an access, as P0:1 W x=1"
+    } else {
         "{} is no entry: P0:1 R x=0 with R, W, LR or LW, or P0:1 F"
+    }
+}
+
+/// Whether a word begins with a core's name.
+fn begins_with_core(word: &[u8]) -> bool {
+    match word.strip_prefix(b"P") {
+        Some(digits) => begins_with_digit(digits),
+        None => false,
     }
 }
 

@@ -4,6 +4,7 @@ use crate::body::body_of;
 use crate::c_forms::{is_call, is_type};
 use crate::faults::COMMENT;
 use crate::forms::says_cell;
+use crate::headers::said_of_binary;
 use crate::instructions::{LOOP, STRAIGHT};
 use crate::keywords::{begins_instruction, is_instruction};
 use crate::line::{Filling, Line};
@@ -26,7 +27,7 @@ use tso_terms::limits::{
 use tso_terms::names::continues_name;
 
 const IN_C: &str =
-    "{} begins a row as in C: a load is MOV EAX,[y], a store MOV [x],$1; a row has one such cell for each core, | between cells, and ; at its end";
+    "{} begins a row as in C, and tools/compiled FILE.c reads C: here a load is MOV EAX,[y], a store MOV [x],$1; a row has one such cell for each core, | between cells, and ; at its end";
 
 const CLAIMS: &str =
     "a condition begins with exists, ~exists or forall, and /\\ or \\/ joins its parts, as in exists (0:EAX=0 /\\ 1:EAX=0)";
@@ -246,7 +247,9 @@ fn sentence_of_long_row(row: &[u8]) -> &'static str {
 pub fn too_large(alloc: Global, line: &mut Line, place: &Place<'_>) -> Result<(), NoMemory> {
     let token = place.token;
     let length = place.text.len();
-    if length > MAX_TEXT {
+    if let Some(said) = said_of_binary(place.text) {
+        line.say(said);
+    } else if length > MAX_TEXT {
         line.say_with(
             "the test has {} bytes: at most {} may stand before the line ====",
             &[Filling::Number(length), Filling::Number(MAX_TEXT)],

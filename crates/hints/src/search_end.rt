@@ -1,5 +1,5 @@
 //! What is said of a search that ended at its limit: how many final states it had met, and what to ask for instead. What was met is
-//! a part of all that there is, but one state that was looked for may be all that people want to know.
+//! a part of all that there is, but one state that decides the condition may be all that people want to know.
 
 ghost use Rattle.std.specs.Prelude.{◌≡◌, ◌⊎◌, [], IfOk, string_bytes};
 ghost use Rattle.hints.specs.Hint.{IsRunsLine, longest_runs_line};
@@ -18,15 +18,15 @@ pub fn limit_of_runs_lines_is_as_defined()
     ensures { MAX_RUNS_LINE ≡ longest_runs_line }
 {}
 
-/// Whether a state was met in which the condition's proposition is true.
+/// Whether a state was met that decides the condition: one in which its proposition has this truth.
 #[derive(Drop)]
 pub enum Sighting {
     /// The test has no condition.
     NoCondition,
     /// None was met.
-    None,
-    /// One was met, to which these choices lead.
-    Met(Vec<Choice>),
+    None(bool),
+    /// One was met at least, to the first of which these choices lead.
+    Met(bool, Vec<Choice>),
 }
 
 /// What is known of a search that ended at its limit.
@@ -40,7 +40,7 @@ pub struct SearchEnd {
     pub is_buffered: bool,
     /// How many final states it had met that look different.
     pub finals: usize,
-    /// Whether one of them was looked for.
+    /// Whether one of them decides the condition.
     pub sighting: Sighting,
 }
 
@@ -62,11 +62,17 @@ pub fn search_ends(line: &mut Line, end: &SearchEnd) {
     };
     let met_words = match (end.finals, &end.sighting) {
         (0, _) | (1, Sighting::NoCondition) => "was met",
-        (1, Sighting::None) => "was met, which makes the proposition false",
-        (1, Sighting::Met(_)) => "was met, which makes the proposition true",
+        (1, Sighting::None(true) | Sighting::Met(false, _)) => {
+            "was met, which makes the proposition false"
+        }
+        (1, Sighting::None(false) | Sighting::Met(true, _)) => {
+            "was met, which makes the proposition true"
+        }
         (_, Sighting::NoCondition) => "were met",
-        (_, Sighting::None) => "were met, none of which makes the proposition true",
-        (_, Sighting::Met(_)) => "were met, one of which makes the proposition true",
+        (_, Sighting::None(true)) => "were met, none of which makes the proposition true",
+        (_, Sighting::None(false)) => "were met, none of which makes the proposition false",
+        (_, Sighting::Met(true, _)) => "were met; the proposition is true in one at least",
+        (_, Sighting::Met(false, _)) => "were met; the proposition is false in one at least",
     };
     line.say_with(
         "the machine can reach more than {} states, {}{}; {} of the final states {}",
@@ -80,7 +86,7 @@ pub fn search_ends(line: &mut Line, end: &SearchEnd) {
     );
 }
 
-/// The line with choices that lead to a state that was looked for, where a search ended at its limit and had met one. The
+/// The line with choices that lead to a state that decides the condition, where a search ended at its limit and had met one. The
 /// empty text where there is none, and where the choices don't fit.
 ///
 /// Errors: out of memory only.
@@ -89,7 +95,7 @@ pub fn runs_line(alloc: Global, cause: &Cause) -> Result<String, NoMemory>
 {
     let Cause::TooManyStates(
         SearchEnd {
-            sighting: Sighting::Met(choices),
+            sighting: Sighting::Met(_, choices),
             ..
         },
     ) = cause

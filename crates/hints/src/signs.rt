@@ -21,6 +21,7 @@ use crate::quotes::{
 use crate::region::{Region, region_of};
 use crate::registers::says_percent;
 use crate::tables::{Alike, is_exactly_one_of, is_one_of, said_of_front};
+use crate::values::says_unequal;
 use litmus_tokens::word;
 
 /// What is said of a line that may be meant as the dividing line.
@@ -157,6 +158,7 @@ pub fn bad_byte(line: &mut Line, place: &Place<'_>, byte: u8) {
         (Some(said), _) => line.say_of(said, place.token),
         (None, b'-') => minus(line, place),
         (None, b'.') => line.say_of(point(place), place.token),
+        (None, b'%') if begins_remark(place) => line.say(COMMENT),
         (None, b'%') if matches!(region, Region::Rows) => percent(line, place),
         (None, b'%') if says_percent(line, place, after_first(place.rest)) => {}
         (None, b'!'..=b'~') => {
@@ -165,6 +167,12 @@ pub fn bad_byte(line: &mut Line, place: &Place<'_>, byte: u8) {
         }
         _ => say_character(line, place, byte),
     }
+}
+
+/// Whether `%` begins a comment, as in TeX: at a line's end, with no name right behind it.
+fn begins_remark(place: &Place<'_>) -> bool {
+    let is_at_end = place.is_first_on_line() || place.line_before().ends_with(b";");
+    is_at_end && (place.rest.starts_with(b"% ") || place.rest.starts_with(b"%%"))
 }
 
 /// Whether a sign ends a row of cells in the place of `;`.
@@ -298,6 +306,10 @@ fn says_of_form(line: &mut Line, place: &Place<'_>, region: Region, byte: u8) ->
         (Region::Rows, b'.') => says_method(line, place),
         (Region::Rows, b'+') => says_sum(line, place),
         (Region::Rows, b'-') if place.rest.starts_with(b"->") => says_sum(line, place),
+        (Region::Condition, b'!' | b'<')
+            if place.rest.starts_with(b"!=") || place.rest.starts_with(b"<>") => {
+            says_unequal(line, place, 2)
+        }
         (Region::Condition, b'&') if is_exactly_one_of("= (", place.last_word) => {
             line.say_of(NO_ADDRESS, place.token);
             true

@@ -37,7 +37,7 @@ const STATIC: &str =
     "{}: a location is declared nowhere: leave it out, and write a value that it begins with into the initial state, as { x=1; }";
 
 const COMPARE: &str =
-    "{}: a program has no compares: leave it out, for a location write a load, as MOV EAX,[x], and ask for the value in the condition, as 0:EAX=1";
+    "{}: a program has no compares: for a location write a load, as MOV EAX,[x], and join what it has: 0:EAX=1 /\\ .. in exists and ~exists, ~(0:EAX=1) \\/ .. in forall; tools/compiled FILE.c reads C";
 
 const CALL: &str =
     "{} isn't read: no function is called here: write the instructions that it stands for: MOV [x],$1, MOV EAX,[x], MFENCE, XCHG [x],EAX or LOCK XADD [x],EAX";

@@ -5,14 +5,12 @@ ghost use Rattle.std.specs.Prelude.{◌<◌, IfSome, length};
 
 use crate::cause::Cause;
 use crate::line::{Filling, Line};
-use crate::place::Place;
 use crate::quotes::first_bytes;
-use crate::unused::location_named;
+use crate::unused::{location_named, place_in};
 use litmus_tokens::{
-    Instructions, Lexeme, Symbol, Token, is_symbol, numeral_at, token_at, tokens_of, word, word_at,
+    Instructions, Lexeme, Symbol, Token, is_symbol, numeral_at, token_at, word, word_at,
 };
-use std::alloc::Global;
-use tso_terms::{Action, Change, Core, Loc, NoMemory, Prop, Reg, Test};
+use tso_terms::{Action, Change, Core, Loc, Prop, Reg, Test};
 
 /// Says that a register, which comes after so many bytes of an input, keeps this value.
 pub fn keeps_register(line: &mut Line, input: &[u8], first: usize, named: (Core, Reg), value: u32) {
@@ -43,10 +41,6 @@ pub fn keeps_location(line: &mut Line, input: &[u8], first: usize, length: usize
     );
 }
 
-fn place_in(input: &[u8], first: usize) -> Place<'_> {
-    Place::new(input, input.len().saturating_sub(first))
-}
-
 /// Whether a proposition names a register or a location that no instruction writes.
 pub fn names_unwritten(test: &Test, prop: &Prop) -> bool {
     match prop {
@@ -62,21 +56,18 @@ pub fn names_unwritten(test: &Test, prop: &Prop) -> bool {
     }
 }
 
-/// The first register that no instruction of its core writes, of the condition of a test, which is a part of this text;
-/// else the first location that keeps another value than is asked.
-///
-/// Errors: out of memory only.
+/// The first register that no instruction of its core writes, of the condition of a test, which is a part of this text and
+/// has these tokens; else the first location that keeps another value than is asked.
 pub fn first_unwritten(
-    alloc: Global,
     test: &Test,
     text: &[u8],
     condition: &[u8],
-) -> Result<Option<Cause>, NoMemory> {
-    if let Some(cause) = first_register(test, text, condition) {
-        return Ok(Some(cause));
+    tokens: &[Token<'_>],
+) -> Option<Cause> {
+    match first_register(test, text, condition) {
+        Some(cause) => Some(cause),
+        None => first_location(test, text, tokens),
     }
-    let tokens = tokens_of(alloc, Instructions::All, condition)?;
-    Ok(first_location(test, text, &tokens.items))
 }
 
 fn first_register(test: &Test, text: &[u8], condition: &[u8]) -> Option<Cause> {

@@ -2,7 +2,7 @@
 //! that is none.
 
 use crate::brackets::says_of_brackets;
-use crate::faults::{COMMENT, NO_VALUE, says_digit_first};
+use crate::faults::{COMMENT, NO_VALUE, WORD_OF_CONDITIONS, says_digit_first};
 use crate::instructions::WORDS;
 use crate::items::is_no_number;
 use crate::keywords::begins_instruction;
@@ -10,8 +10,9 @@ use crate::line::{Filling, Line};
 use crate::mnemonics::larger_of;
 use crate::numbers::number_in;
 use crate::place::Place;
+use crate::quotes::{digits_and_letters, first_bytes, last_bytes};
 use crate::registers::{register_of, says_register};
-use crate::tables::{begins_with_one_of, said_of};
+use crate::tables::{begins_with_one_of, is_one_of, said_of};
 use litmus_tokens::{Lexeme, Symbol, Token, is_symbol};
 use tso_terms::Reg;
 use tso_terms::names::is_location_name;
@@ -39,6 +40,7 @@ pub fn says_of_each(line: &mut Line, cell: &[u8], operands: &[Token<'_>]) -> boo
     says_of_digits(line, cell, operands)
         || says_of_brackets(line, cell, operands)
         || says_parted(line, operands)
+        || says_two_words(line, cell, operands)
         || says_of_words(line, operands)
 }
 
@@ -80,6 +82,30 @@ fn says_parted(line: &mut Line, operands: &[Token<'_>]) -> bool {
         }
     }
     false
+}
+
+/// Says of two operands without a comma between them, of which the first is a location without brackets. Whether they are all.
+fn says_two_words(line: &mut Line, cell: &[u8], operands: &[Token<'_>]) -> bool {
+    let [first, second] = operands else {
+        return false;
+    };
+    let is_number = matches!(second.lexeme, Lexeme::Number(_));
+    let is_known = is_location_name(name_of(first))
+        && (is_number || Reg::from_name(name_of(second)).is_some());
+    if is_known {
+        let before = first_bytes(cell, cell.len().saturating_sub(first.remaining));
+        line.say_with(
+            "{}: write {} [{}],{}{}",
+            &[
+                Filling::Named(cell),
+                Filling::Shown(before.trim_ascii_end()),
+                Filling::Shown(digits_and_letters(last_bytes(cell, first.remaining))),
+                Filling::Text(if is_number { "$" } else { "" }),
+                Filling::Shown(digits_and_letters(last_bytes(cell, second.remaining))),
+            ],
+        );
+    }
+    is_known
 }
 
 /// Says of the first name among operands that is neither a location in brackets nor a register. Whether there is one.
@@ -127,6 +153,8 @@ fn fits(before: Option<Lexeme<'_>>, name: &[u8]) -> bool {
 fn misfit(before: Option<Lexeme<'_>>, name: &[u8], has_comma: bool) -> Option<&'static str> {
     match before {
         Some(Lexeme::Symbol(Symbol::Dollar)) => Some(said_of_dollar(name)),
+        Some(Lexeme::Symbol(Symbol::OpenSquare))
+            if is_one_of("exists forall not true false", name) => Some(WORD_OF_CONDITIONS),
         Some(Lexeme::Symbol(Symbol::OpenSquare)) => Some(NO_LOCATION),
         _ if is_no_number(name) => Some(NO_VALUE),
         _ if begins_instruction(name) || larger_of(name).is_some() => Some(NO_SECOND),

@@ -113,8 +113,8 @@ fn told_answer<S: Watcher>(
     }
 }
 
-/// What is to be told of an answer of this status before all else, where it may mislead: that nothing but the test's
-/// condition names a location; or that its states leave out what the test lists.
+/// What is to be told of an answer of this status before all else, where it may mislead: what the test's condition or its
+/// names say; or that its states leave out what the test lists.
 fn warning_of(
     alloc: Global,
     settings: &Settings,
@@ -124,7 +124,7 @@ fn warning_of(
 ) -> Result<Option<Cause>, NoMemory> {
     match status {
         Status::Good | Status::NotAsClaimed if may_mislead(settings) => {
-            match Cause::of_condition(alloc, test, spelling)? {
+            match Cause::of_names(alloc, test, spelling)? {
                 Some(cause) => Ok(Some(cause)),
                 None => match settings {
                     Settings::Outcomes { search, .. } => {

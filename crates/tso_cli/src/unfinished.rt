@@ -11,11 +11,10 @@ use explorer::FinalState;
 use hints::{Cause, SearchEnd, Sighting};
 use std::alloc::Global;
 use tso_laws::ended_runs_are_executions;
-use tso_terms::{Cond, NoMemory, Test, cond_holds};
+use tso_terms::{Cond, NoMemory, Quantifier, Test, cond_holds};
 
 /// Of what the hint is made beside the answer of a search that ended at its limit and had met these final states: how many
-/// look different, as the answer counts them, and, of the first that makes the condition's proposition true, the choices that lead
-/// there.
+/// look different, as the answer counts them, and, of the first that decides the condition, the choices that lead there.
 ///
 /// Errors: out of memory only.
 pub fn cause_of_end(
@@ -30,14 +29,17 @@ pub fn cause_of_end(
     ended_runs_are_executions();
     test.know_limits();
     let sighting = match test.cond() {
-        Some(cond) => match first_met(cond, finals) {
-            Some(found) => {
-                let mut choices = Vec::new(alloc);
-                choices.extend_from_slice(&found.choices)?;
-                Sighting::Met(choices)
+        Some(cond) => {
+            let truth = !matches!(cond.quantifier, Quantifier::Forall);
+            match first_met(cond, finals, truth) {
+                Some(found) => {
+                    let mut choices = Vec::new(alloc);
+                    choices.extend_from_slice(&found.choices)?;
+                    Sighting::Met(truth, choices)
+                }
+                None => Sighting::None(truth),
             }
-            None => Sighting::None,
-        },
+        }
         None => Sighting::NoCondition,
     };
     Ok(Cause::TooManyStates(SearchEnd {
@@ -49,12 +51,12 @@ pub fn cause_of_end(
     }))
 }
 
-/// The first of the final states that makes the proposition true.
-fn first_met<'a>(cond: &Cond, finals: &'a [FinalState]) -> Option<&'a FinalState>
+/// The first of the final states in which the proposition has this truth.
+fn first_met<'a>(cond: &Cond, finals: &'a [FinalState], truth: bool) -> Option<&'a FinalState>
     requires { All (λ f. NamesExist (length f.registers.items) (length f.memory.items) (claim_of cond.now.prop)) finals.now }
 {
     for found in finals {
-        if cond_holds(cond, &found.registers, &found.memory) {
+        if cond_holds(cond, &found.registers, &found.memory) == truth {
             return Some(found);
         }
     }

@@ -312,6 +312,11 @@ def write_equal(text):
                        lambda found: "((%s=0 /\\ %s=0) \\/ (%s=1 /\\ %s=1))" % (found.groups() * 2), text.line, count=1)
 
 
+def write_unequal(text, sign, place, number, told):
+    sign = "\u2260" if sign == "U+2260" else sign.strip("'")
+    text.line = re.sub(r"%s\s*%s\s*%s\b" % tuple(map(re.escape, (place, sign, number))), lambda _: told, text.line, count=1)
+
+
 def write_values(text):
     """An atom for each of several values."""
     def written(found):
@@ -326,7 +331,7 @@ def leave_out_address(text, name):
 CURES = [
     (r"X86_64 tests aren't read: .*; if you do so by hand, begin with X86 and .*", lambda text: write_header(text, "X86_64")),
     (r"(\w+) is (?:another processor|a language): write its programs as X86 instructions, below a line X86 NAME; .*", write_header),
-    (r"C is a language: the tool compiled reads such a test; tso reads programs of X86 instructions, below a line X86 NAME",
+    (r"C is a language: tools/compiled FILE reads such a test; tso reads programs of X86 instructions, below a line X86 NAME",
      lambda text: write_header(text, "C")),
     (r"(\w+) isn't X86, and the cells below are X86's: write X86 in its place", write_header),
     (r"the cells below are X86's: write X86 in place of (X86_64)", write_header),
@@ -366,8 +371,9 @@ CURES = [
     (r"(\w+): numbers are decimal: write (\d+)", Text.replace),
     (r"(\w+) is a type, and items have no types here: leave it out; if the item has no value, leave out the whole item, .*", leave_out_type),
     (r"(\w+) isn't read: for a location write a load, as MOV EAX,\[x\], and a store of the result, .*", load_and_store),
-    (r"(\w+): is a label, and a program has no jumps: leave it out", leave_out_jump),
-    (r"(\w+) isn't read: it changes .*, so leave it out", leave_out_cell),
+    (r"(\w+) is a label, and a program has no jumps: leave it out, .*", leave_out_jump),
+    (r"(\w+) isn't read: (?:it changes .*, so leave it out|leave it out: it changes .*)", leave_out_cell),
+    (r"(\S+): that (\S+) isn't (\d+) is written (~\(\S+=\d+\))", write_unequal),
     (r"MOV has the forms .*; from \[y\] to \[x\] go through a register: .*", go_through_register),
     (r"(P\w+): a core is its number alone here, as in 0:EAX", number_core),
     (r"(\w+) names no location, and no register can hold an address here: .*", name_location),
