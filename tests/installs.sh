@@ -174,6 +174,32 @@ judge_older() {
   cp "$room/crates" crates.txt
 }
 
+# A folder of which a part is a link to elsewhere: the tools find the program beside them without a path, and it is all taken away again.
+judge_linked() {
+  local part prefix
+  for part in share bin; do
+    prefix=$room/linked/$part/of/programs
+    mkdir -p "$prefix" "$room/linked/$part/there/deep/$part" && ln -s "../../there/deep/$part" "$prefix/$part"
+    "${bare[@]}" ./tso --install "$prefix" 2> "$room/said" \
+      && [ "$(cd / && PATH=${PATH#"$1/bin:"} "$prefix/bin/tso-campaign" outcomes "$top/examples/gallery/SB.litmus" 2> "$room/said")" = "SB Sometimes 1 3 Ok" ]
+    judge "a tool by its whole name, where $part is a link" $?
+    (cd / && "$prefix/bin/tso-uninstall" 2> "$room/said") \
+      && [ "$(cd "$room/linked/$part" && find . | sort | tr '\n' ' ')" = ". ./of ./of/programs ./of/programs/$part ./there ./there/deep ./there/deep/$part " ]
+    judge "tso-uninstall without a folder, where $part is a link" $?
+  done
+}
+
+# An earlier version wrote no digests, and said nothing of the folder itself: an install over it leaves no empty folder when all is gone.
+judge_earlier() {
+  local prefix=$room/earlier/programs
+  "${bare[@]}" ./tso --install "$prefix" 2> "$room/said" && rm "$prefix/share/tso/digests" && sed -i /digests$/d "$prefix/share/tso/installed" \
+    && mkdir -p "$prefix/share/doc/tso/docs/gone" && : > "$prefix/share/doc/tso/docs/gone/A.md" \
+    && echo share/doc/tso/docs/gone/A.md >> "$prefix/share/tso/installed" \
+    && "${bare[@]}" ./tso --install "$prefix" 2> "$room/said" && [ -z "$(find "$prefix" -type d -empty)" ] \
+    && "${bare[@]}" ./tso --uninstall "$prefix" 2> "$room/said" && [ ! -e "$prefix" ]
+  judge "an install over a version without digests leaves no empty folder" $?
+}
+
 # A second version, which has one file less, over the first; then all of it goes, but what is another's.
 judge_removal() {
   local prefix=$1
@@ -198,6 +224,8 @@ judge_refusals
 judge_read_only
 judge_tools "$room/a folder/of programs"
 judge_documents "$room/a folder/of programs"
+judge_linked "$room/a folder/of programs"
+judge_earlier
 judge_older
 judge_removal "$room/a folder/of programs"
 end

@@ -204,7 +204,8 @@ is_empty() {
 is_list() { ! grep -qE '^/|(^|/)\.\.(/|$)|^$|\\' "$1"; }
 
 # Reads what is installed: the names, in `installed`; what they were, in `earlier`; the folders that were made, in `made_folders`; and for
-# how many the prefix itself was made, in `made`. A list without digests is one of an earlier version: its names are believed.
+# how many the prefix itself was made, in `made`. A list without digests is one of an earlier version: its names are believed, and the prefix
+# is taken for one that it made.
 read_lists() {
   local what name
   installed=() made_folders=() made=0
@@ -216,7 +217,7 @@ read_lists() {
   mapfile -t installed < "$prefix/$LIST"
   if [ ! -f "$prefix/$DIGESTS" ]; then
     folders_above "${installed[@]}"
-    made_folders=("${above[@]}")
+    made_folders=("${above[@]}") made=1
     for name in "${installed[@]}"; do earlier[$name]=any; done
     return
   fi
