@@ -28,6 +28,14 @@ pub returns-clause-count : goal.returns-clause-count
 unfolding digits all_registers
 returns-clause-count c = refl
 
+pub returns-clause-words : goal.returns-clause-words
+unfolding digits all_registers
+returns-clause-words c = refl
+
+pub returns-clause-no_value : goal.returns-clause-no_value
+unfolding digits all_registers
+returns-clause-no_value c = refl
+
 pub returns-clause-turns : goal.returns-clause-turns
 unfolding digits all_registers
 returns-clause-turns c = refl
@@ -39,3 +47,7 @@ returns-clause-n6 c = refl
 pub returns-clause-passing_json : goal.returns-clause-passing_json
 unfolding digits all_registers escape_byte print_from
 returns-clause-passing_json c = refl
+
+pub returns-clause-no_value_json : goal.returns-clause-no_value_json
+unfolding digits all_registers escape_byte print_from
+returns-clause-no_value_json c = refl
