@@ -78,7 +78,7 @@ async function showFormat() {
 function besideNote(name) {
   if (name === 'herd') return 'It counts outcomes, where herd7 counts executions.';
   const added = byId('states').querySelector('.alone-said, .sequential') ? ['What the page says of sequential consistency, and of cycles, isn\'t in this text.'] : [];
-  return [...added, ...[...queryAll('#states .ways-said')].map(said => said.textContent), currentCommand() === 'why' && textShown().includes('implied') ? '“implied” is “lock” in the picture.' : ''].join(' ').trim();
+  return [...added, ...(byId('of-c').hidden ? [] : [OF_C]), ...[...queryAll('#states .ways-said')].map(said => said.textContent), currentCommand() === 'why' && textShown().includes('implied') ? '“implied” is “lock” in the picture.' : ''].join(' ').trim();
 }
 
 /** Beside a search that met its limit: that the answer to the condition is that of `why`, which no text of the search has. */

@@ -201,6 +201,14 @@ function strangeIn(test) {
   return jump || said ? { field: 'test', line: at, said: `Line ${at}: ${why}` } : undefined;
 }
 
+/** The line that a test has which was made of C or C++, and what is said with each of its answers. */
+const FROM_C = 'Made from=C or C++';
+const OF_C = 'This is what the processor does with these plain moves. The compiler may reorder relaxed accesses: ask tools/compiled.';
+const isFromC = test => test.split('\n').some(line => line.trim() === FROM_C);
+
+/** Whether a cell is a statement of C, and no instruction. */
+const isC = cell => /[=(]/.test(cell) && STATEMENT.test(cell);
+
 /** A text with each function, or what follows each label, in a line. */
 const inThreads = test => (/^[\w ]+:\s*$/m.test(test) ? test.replace(/\n(?!\s*([\w ]+:\s*$|[~/\\(]|exists|forall|$))/gm, ';')
   : test.replace(/(?:[^{}=]|= *0|\{0?\})*\)\s*\{([^{}]+)\}/gy, (all, body) => `${body.replace(/\s+/g, ' ')}\n`));
@@ -212,7 +220,7 @@ function framed(test) {
   const named = lines.slice(0, last).filter(line => !/^\s*(P|Thread )\d\s*[|;]/i.test(line)).map(line => line.replace(/:=/g, '=').replaceAll('std::', '')), rows = threadsIn(named) ?? named.map(line => line.replace(/;\s*$/, '').split(/\|+/).map(cell => cell.replace(/;\s*$/, '').trim()));
   if (!(rows[0]?.length > 1) || rows.some(({ length }) => length !== rows[0].length) || /[{}]/.test(plain) || strangeIn(test)) return null;
   const above = rows[0].map((_, core) => `P${core}`);
-  return { text: [head || 'X86 mine', `{ ${start.trim()} }`.replace(/ +/, ' '), ...[above, ...rows].map(cells => ` ${cells.join(' | ')} ;`), ...lines.slice(last), ''].join('\n'), isOther: true, isFrame: true, said: `${head ? '' : 'a name, '}{ }${named.length < last ? '' : ' and the row of cores'} added` };
+  return { text: [head || 'X86 mine', ...(title || rows.flat().some(isC) ? [FROM_C] : []), `{ ${start.trim()} }`.replace(/ +/, ' '), ...[above, ...rows].map(cells => ` ${cells.join(' | ')} ;`), ...lines.slice(last), ''].join('\n'), isOther: true, isFrame: true, said: `${head ? '' : 'a name, '}{ }${named.length < last ? '' : ' and the row of cores'} added` };
 }
 
 /** A listing with locations as in a test: N_x for N::x, x_8 for x+8. */

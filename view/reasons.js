@@ -59,7 +59,7 @@ const CLOSING_SENTENCES = {
   uniproc: ({ cycle }) => `It can't be: among the accesses to one location, ${eventWords(cycle[0].from)} would be before itself.`,
   between: ({ between, read }) => `It can't be: ${between} would come between the two parts of the locked instruction ${read.split(' ')[0]}.`,
   false: ({ places }) => falseSentence(Object.entries(places)),
-  none: ({ question, of }) => `It can't be: ${NO_ANSWERS[question](of)}.`,
+  none: ({ question, of }) => `It can't be: ${(question === 'source' && skippedSaid(of)) || NO_ANSWERS[question](of)}.`,
   lemma: ({ lemma }) => `It can't be, by lemma ${lemma}.`,
 };
 
@@ -70,6 +70,35 @@ const NO_ANSWERS = {
   reader: word => `no locked instruction can read ${word.endsWith(' initial') ? `the initial value of ${word.split(' ')[0]}` : `what ${word} writes, and it isn't the last write`}`,
   last: location => `no write to ${location} can be the last one`,
 };
+
+/** The word that an operand has at a place of a core's program, or null where it depends on the run. */
+function wordAt({ programs, start }, core, place, operand) {
+  const [, number] = /^\$(-?\d+)$/.exec(operand) ?? [];
+  if (number !== undefined) return Number(number) >>> 0;
+  const at = programs[core].slice(0, place).findLastIndex(text => writtenBy(text).includes(operand));
+  const [, word] = at < 0 ? [] : /^MOV \w+,\$(-?\d+)$/.exec(programs[core][at]) ?? [];
+  return at < 0 ? start.cores[core].registers[operand] ?? null : word === undefined ? null : Number(word) >>> 0;
+}
+
+/** Whether an instruction writes no word of a location that is this one, where it's certain: it stores another, or it compares with this one and writes another. */
+function writesNone(read, core, place, location, word) {
+  const text = read.programs[core][place], [, name, of, operand] = /^(MOV|XCHG|LOCK \w+) \[(\w+)\](?:,(\S+))?$/.exec(text) ?? [];
+  if (of !== location) return !text.includes(`[${location}]`) || /^MOV \w+,\[/.test(text);
+  const written = operand === undefined ? null : wordAt(read, core, place, operand), isOther = written !== null && written !== word;
+  return isOther && (name === 'LOCK CMPXCHG' ? wordAt(read, core, place, 'EAX') === word : ['MOV', 'XCHG'].includes(name));
+}
+
+/** Why nothing is left that a locked instruction can read, where another one has to read the same word too: the initial one, which nothing writes. */
+function skippedSaid(of) {
+  const { kind, location, value } = eventOf(of), { steps } = sheet.told, { programs, start } = sheet.read, word = Number(value);
+  const given = steps.find(({ step }) => step === 'given')?.facts ?? [];
+  const other = given.find(fact => fact !== of && LOCKED_READ.test(fact) && eventOf(fact).location === location && eventOf(fact).value === value);
+  if (kind !== 'LR' || value === undefined || !other || start.memory[location] !== word) return null;
+  const isOnly = programs.every((program, core) => program.every((_, place) => writesNone(sheet.read, core, place, location, word)));
+  return isOnly ? `${listed([other, of].toSorted())} may each read only the initial ${word}, and the later would skip the first one's write` : null;
+}
+
+const LOCKED_READ = /^P\d:\d+ LR \w+=\d+$/;
 
 /** What a step of a reason says. */
 const STEP_SENTENCES = {

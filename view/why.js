@@ -2,8 +2,8 @@
 
 // The sheet of `why`: what was asked, and why it can't be, or how it can.
 
-/** The sheet that is shown: the answer, the programs, and the cycle that is drawn. */
-const sheet = { told: null, programs: null, cycle: null, answered: [], width: 0 }; // `answered`: of what it was made, in a window of such a width
+/** The sheet that is shown: the answer, the programs as written and as read, and the cycle that is drawn. */
+const sheet = { told: null, programs: null, read: null, cycle: null, answered: [], width: 0 }; // `answered`: of what it was made, in a window of such a width
 
 /** What an act gives; false where an older module throws. */
 function tried(act) {
@@ -53,10 +53,10 @@ function readAsSaid(test) {
 
 /** Shows what `why --json` told of a test, and `beside` it of sequential consistency. */
 function showReason(answer, test, beside) {
-  const told = JSON.parse(answer.text), { programs: read, proposition } = readTest(test), programs = asWritten(test, read);
+  const told = JSON.parse(answer.text), { programs: read, proposition, start } = readTest(test), programs = asWritten(test, read);
   showAnswer(answer);
   foldReport(answer);
-  Object.assign(sheet, { told, programs, test, cycle: null, events: null, answered: [answer, test, beside], width: innerWidth });
+  Object.assign(sheet, { told, programs, read: { programs: read, start }, test, cycle: null, events: null, answered: [answer, test, beside], width: innerWidth });
   showQuestion(test); // no picture repeats it
   const isTso = told.model === 'tso', can = told.answer !== 'never';
   if (isTso) possible[can ? 'told' : 'refuted'] = test;

@@ -132,7 +132,7 @@ def told_c_row(bench):
     bench.open_fresh()
     bench.fill("test", HERDS)
     faults = differs("said", bench.value("[byId('plain').textContent, (writeRepairs(), byId('test').value)]"), ["Line 1: this is C.",
-                     "X86 cas\n{ [x]=2; }\n P0          | P1          ;\n MOV [x],$1  | MOV [y],$1  ;\n MOV EAX,[y] | MOV EAX,[x] ;\nexists (0:EAX=0 /\\ 1:EAX=0)\n"])
+                     "X86 cas\nMade from=C or C++\n{ [x]=2; }\n P0          | P1          ;\n MOV [x],$1  | MOV [y],$1  ;\n MOV EAX,[y] | MOV EAX,[x] ;\nexists (0:EAX=0 /\\ 1:EAX=0)\n"])
     jumps = "Line %d: if can't be written: a test has no jumps."
     for text, said in (("P0: x=1; r0=y;\nP1: if (x==0) r1=0;\n", jumps % 2), ("void t0() {\n  x = 1;\n  if (y == 0) {\n    r0 = 1;\n  }\n}\n", jumps % 3), (HERDS.replace(" r0 = *y", " if (y) r0 = 1"), jumps % 6),
                        ("x=1; | y=1;\nr0=y; | f(x);\n", "Line 2: “f(x)” isn't understood. Write x = 1, r0 = y or fence, with ; between them and | between threads.")):
@@ -229,7 +229,7 @@ def threads_row(bench):
     for line in ("x=1; r0=y | y=1; fence; r1=x", "x.store(1, memory_order_relaxed); int r0 = y.load(memory_order_acquire) | atomic_store(&y, 1); r1 = x", "x=1; r0=y; | y=1; std::atomic_thread_fence(std::memory_order_seq_cst); r1=x;"):
         bench.fill("test", line + "\nexists (r0==0 && r1==0)\n")
         bench.value("writeRepairs()")
-        faults += differs("of " + line, bench.value("byId('test').value.split('\\n').slice(2)"), FROM_THREADS)
+        faults += differs("of " + line, bench.value("byId('test').value.split('\\n').slice(3)"), FROM_THREADS)
     for name, is_offered in (("r1", True), ("r2", False), ("r0", False)):
         bench.fill("test", "X86 mine\n{ }\n" + "\n".join(FROM_THREADS[:4]) + "\nexists (r0=0 /\\ %s=0)\n" % name)
         faults += differs("with " + name, bench.value("!byId('write-so').hidden"), is_offered)
@@ -239,6 +239,47 @@ def threads_row(bench):
     bench.value("writeRepairs()")
     said = bench.text(".writing .noticed")
     return faults + [part for part in ("declarations (uint64_t) were left out", "movq (y),%rax became MOV EAX,[y]") if part not in said] + safety(bench)
+
+
+def caveat_row(bench):
+    """A test that was made of C or C++ says with each answer what the compiler may do; one of instructions, or of a listing, doesn't."""
+    bench.open_fresh()
+    said = "(() => { const place = byId('of-c'); return [!place.hidden && place.getClientRects().length > 0, place.textContent]; })()"
+    caveat = "This is what the processor does with these plain moves. The compiler may reorder relaxed accesses: ask tools/compiled."
+    faults = []
+    for text, is_c in (("x=1; r0=y | y=1; r1=x\nexists (r0==0 && r1==0)\n", True), (C_FUNCTIONS, True), (HERDS, True), ("P0 || P1\nx=1 || y=1\nr0=y || r1=x\nexists (0:r0=0 /\\ 1:r1=0)\n", True),
+                       ("MOV [x],$1 | MOV [y],$1\nMOV EAX,[y] | MOV EAX,[x]\nexists (0:EAX=0)\n", False)):
+        bench.fill("test", text)
+        bench.value("writeRepairs()")
+        faults += differs("run of " + text, bench.value(said)[0], is_c)
+        for command, shown in (("outcomes", ".states-sheet"), ("why", ".reason")):
+            bench.value("ask('%s')" % command)
+            bench.wait("!bench.task && document.querySelector('%s')" % shown)
+            faults += differs(command + " of " + text, bench.value(said), [is_c, caveat])
+            faults += differs("beside the text of " + command, caveat in bench.value("besideNote('printed')"), is_c)
+        bench.fill("test", bench.value("byId('test').value").replace("$1", "$2"))
+        faults += differs("once it's changed", bench.value(said)[0], is_c)
+    return faults + safety(bench)
+
+
+COMPARED = "X86 cas\n{ %s }\n P0 | P1 ;\n %s | %s ;\nexists (%s)\n"
+
+
+def skipped_row(bench):
+    """Why two compare-and-exchanges can't both read the initial word is said with its reason; where another write may have the word, that isn't said."""
+    bench.open_fresh()
+    faults, reason = [], "P0's locked load of x and P1's locked load of x may each read only the initial 0, and the later would skip the first one's write."
+    both, compare = "0:EAX=0 /\\ 1:EAX=0", "LOCK CMPXCHG [x],ECX"
+    for start, first, second, asks, is_said in (("0:ECX=1; 1:ECX=2;", compare, compare, both, True), ("0:EAX=0; 1:EAX=0;", "MOV ECX,$1 | MOV ECX,$2 ;\n " + compare, compare, both, True),
+                                                ("0:EAX=1; 1:EAX=1;", "XCHG [x],EAX", "XCHG [x],EAX", both, True), ("0:EAX=1; 1:EAX=0; 1:ECX=3;", "XCHG [x],EAX", compare, both, True),
+                                                ("x=7; 0:EAX=7; 1:EAX=7; 0:ECX=1; 1:ECX=2;", compare, compare, "0:EAX=7 /\\ 1:EAX=7", True),
+                                                ("0:EAX=1; 1:EAX=1;", "LOCK XADD [x],EAX", "LOCK XADD [x],EAX", both, False), ("0:EAX=3; 1:EAX=3; 0:ECX=1; 1:ECX=2;", compare, compare, "0:EAX=1 /\\ 1:EAX=1", False)):
+        bench.fill("test", COMPARED % (start, first, second, asks))
+        bench.value("ask('why')")
+        bench.wait("!bench.task && document.querySelector('.reason')")
+        found, wanted = bench.text(".reason"), reason.replace("initial 0", "initial 7") if "x=7" in start else reason
+        faults += differs("%s of %s" % (start, first), [wanted in found, is_said and "nothing is left" in found], [is_said, False])
+    return faults + safety(bench)
 
 
 def dimmed_row(bench):
@@ -327,5 +368,6 @@ def told_row(bench):
 
 def rows(page, folder):
     bench = Driver(page)
-    return [("columns of a line of locations", lambda: locations_row(bench)), ("what compilers print, written by one press", lambda: written_row(bench)),
+    return [("what a compiler may do, with each answer", lambda: caveat_row(bench)), ("why two compare-and-exchanges", lambda: skipped_row(bench)),
+            ("columns of a line of locations", lambda: locations_row(bench)), ("what compilers print, written by one press", lambda: written_row(bench)),
             ("rows of C alone", lambda: frameless_row(bench)), ("C of herd7, and C that can't be taken", lambda: told_c_row(bench)), ("mistakes in eight by eight", lambda: mistakes_row(bench)), ("threads of C in one line", lambda: threads_row(bench)), ("a refused line comes into sight", lambda: sight_row(bench)), ("an old answer while a search works", lambda: dimmed_row(bench)), ("a wide table of outcomes", lambda: wide_row(bench)), ("outcomes in the form of herd7", lambda: herd_row(bench)), ("answers of a test without a condition, and of claims", lambda: told_row(bench))]

@@ -9,6 +9,8 @@
             after the call, the command's process group gets this signal
      fail   the call fails, for want of room (ENOSPC), and no other does
      full   it fails so, and each later one that needs room; what gives room back, as a removal, doesn't
+     replace
+            after the call, if it changed an open file, another file with the same bytes takes that one's name, as `sed -i` does it
    NOTES is a file to which goes a line for each call, as it is made: its name, `room` where it needs room and else `-`, and the path,
    or the number of the open file, that it changes. What goes to pipes, terminals and devices counts for nothing. Where nothing is
    broken, a line `refused NUMBER -` follows for a call that the system refused, as a mkdir of a folder that is there.
@@ -84,11 +86,12 @@ static const Call CALLS[] = {
 #define COUNT (sizeof CALLS / sizeof *CALLS)
 
 static const char *kind;
-static long number, seen;
+static long number, seen, noted;
 static FILE *notes;
 
-/* The process that is stopped after the call at which the command is broken. */
+/* The process that is stopped after the call at which the command is broken, and the open file that the call changed, or -1. */
 static pid_t broken;
+static int changed_file = -1;
 
 /* The processes that are traced, and the number of the call that each is in; 0 where nobody waits for the call's end. */
 typedef struct {
@@ -199,6 +202,8 @@ static const Call *change_of(pid_t process, const struct user_regs_struct *regis
         if (strncmp(path, "/dev/", 5) == 0 && strncmp(path, "/dev/shm/", 9) != 0)
             return NULL;
     }
+    if (++noted == number)
+        changed_file = call->is_open ? (int)changed : -1;
     fprintf(notes, "%s %s %s\n", call->name, call->needs_room ? "room" : "-", path);
     fflush(notes);
     return call;
@@ -231,7 +236,7 @@ static void go_on(pid_t process) {
         registers.orig_rax = -1;
         registers.rax = -ENOSPC;
         ptrace(PTRACE_SETREGS, process, 0, &registers);
-    } else if (call && seen == number && (strcmp(kind, "kill") == 0 || signal_of_kind())) {
+    } else if (call && seen == number && (strcmp(kind, "kill") == 0 || strcmp(kind, "replace") == 0 || signal_of_kind())) {
         broken = process;
         ptrace(PTRACE_SYSCALL, process, 0, 0);
         return;
@@ -270,6 +275,26 @@ static void kill_all(void) {
             kill(process, SIGKILL);
 }
 
+/* Has another file with the same bytes take the name of the one that the call changed. */
+static void replace(pid_t process) {
+    char open_file[64], path[4096], beside[4200], block[4096];
+    ssize_t length;
+    snprintf(open_file, sizeof open_file, "/proc/%d/fd/%d", process, changed_file);
+    if (changed_file < 0 || (length = readlink(open_file, path, sizeof path - 1)) < 0)
+        return;
+    path[length] = 0;
+    snprintf(beside, sizeof beside, "%s.replacing", path);
+    FILE *from = fopen(path, "re"), *to = from ? fopen(beside, "we") : NULL;
+    if (!to)
+        return;
+    while ((length = fread(block, 1, sizeof block, from)) > 0)
+        if (fwrite(block, 1, length, to) != (size_t)length)
+            stop("write");
+    fclose(from);
+    if (fclose(to) || rename(beside, path))
+        stop("rename");
+}
+
 /* Follows all processes of the command until the last has ended. Answers how the first one did. */
 static int follow(pid_t first) {
     int status, end = 0;
@@ -293,7 +318,10 @@ static int follow(pid_t first) {
                 kill_all();
                 return SIGKILL;
             }
-            kill(-first, signal_of_kind());
+            if (strcmp(kind, "replace") == 0)
+                replace(process);
+            else
+                kill(-first, signal_of_kind());
             ptrace(PTRACE_CONT, process, 0, 0);
         } else if (signal == (SIGTRAP | 0x80) && one->call) {
             note_refusal(one);

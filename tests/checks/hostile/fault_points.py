@@ -1,5 +1,5 @@
 """Breaks a command at each system call by which it changes a file: every process is killed after the call, or the disk is full from it on,
-or the call alone fails, or a signal comes. The tracer is failing_files.c.
+or the call alone fails, or a signal comes, or the file is replaced. The tracer is failing_files.c.
 
 A script makes a fresh copy of what the command works on for each point, breaks the command there, and then judges what is left, by
 `tree`. It is for whole command lines in any language: the calls of each process that the command starts are counted together.
@@ -20,7 +20,7 @@ import tempfile
 
 from checks import program_starts
 
-KILL, FULL, FAIL, INT, TERM, HUP = "kill", "full", "fail", "int", "term", "hup"
+KILL, FULL, FAIL, INT, TERM, HUP, REPLACE = "kill", "full", "fail", "int", "term", "hup", "replace"
 SIGNALS = (INT, TERM, HUP)
 
 # What the tracer says where it couldn't run a command.
@@ -68,9 +68,10 @@ def changes(command, given=b"", **options):
 
 def points(made, kinds=(KILL, FULL)):
     """The points at which a command that makes these changes can be broken, pairs of a kind and a number: a disk is full where a change
-    needs room. A call that the system refuses in any case is none: all is then as after the call before it."""
+    needs room, and a file replaced where it is written. A call that the system refuses in any case is none: all is then as after the call
+    before it."""
     return [(kind, number) for kind in kinds for number, change in enumerate(made, 1)
-            if not change.is_refused and (change.needs_room or kind != FULL)]
+            if not change.is_refused and (change.needs_room or kind != FULL) and (change.name == "write" or kind != REPLACE)]
 
 
 def situations(made):

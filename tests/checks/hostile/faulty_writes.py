@@ -1,5 +1,6 @@
 """Faults of the tools that write, for tests/hostile_tools.py: each is killed after a system call that changes a file, or the disk is full
-from one on (fault_points.py). What isn't the tool's own is as before then, and a second call ends as if there had been no fault."""
+from one on (fault_points.py). What isn't the tool's own is as before then, and a second call ends as if there had been no fault. And a campaign's
+file of results is replaced at each write: all that was written is there then, by its name or in the file that the campaign names."""
 import os
 import re
 import shutil
@@ -149,6 +150,42 @@ def fault_of(job, kind, number, source, wanted, ended):
         return wrong or ("left by the second call: %s" % held if held else None)
 
 
+# What a campaign says whose results others replaced.
+APART = re.compile(rb"campaign: results was replaced, removed or changed while this campaign wrote it: all its results, (\d+), are in (\S+); [^\n]*\n\Z")
+
+
+def fault_of_replaced(job, number, source, wanted, ended):
+    """What is wrong with a campaign one of whose files is replaced at this write, and with a second call: nothing is lost, whatever it was, and
+    where it was the file of results, the status is 2."""
+    with tempfile.TemporaryDirectory() as room:
+        shutil.copytree(source, room, symlinks=True, dirs_exist_ok=True)
+        done, changes = fault_points.broken(fault_points.REPLACE, number, job.line(), cwd=room, env=environment(room, job))
+        there = fault_points.tree(room)
+        lines = {name: set(content.splitlines(True)) for name, (_, content) in there.items()}
+        whole, told = set(wanted[b"results"][1].splitlines(True)), APART.search(done.stderr)
+        if told:
+            kept = lines[os.path.relpath(told.group(2), os.fsencode(os.path.realpath(room)))]
+            wrong = None if done.returncode == COULD_NOT and len(kept) == int(told.group(1)) and lines[b"results"] <= kept <= whole else (
+                "status %d, %d lines kept, %d by the name" % (done.returncode, len(kept), len(lines[b"results"])))
+        else:
+            wrong = None if done.returncode == ended.returncode and lines[b"results"] == whole else "status %d, %r" % (done.returncode, done.stderr)
+        again = called(job, room)
+        left = {name: what for name, what in settled(fault_points.tree(room)).items() if not name.startswith(b"results.kept")}
+        wrong = wrong or "; ".join(fault_points.differences(wanted, left)) or None
+        return wrong or (None if again.returncode == ended.returncode else "the second call: status %d, %r" % (again.returncode, again.stderr))
+
+
+def replaced(name, job, room):
+    """Rows for each write of a campaign: its name, and what is wrong."""
+    with tempfile.TemporaryDirectory() as copy:
+        shutil.copytree(room, copy, symlinks=True, dirs_exist_ok=True)
+        ended, changes = fault_points.changes(job.line(), cwd=copy, env=environment(copy, job))
+        wanted = settled(fault_points.tree(copy))
+    points = fault_points.points(changes, (fault_points.REPLACE,))
+    print("files replaced under %s: %d writes" % (name, len(points)))
+    return [("%s: a file is replaced at write %d" % (name, number), (job, number, room, wanted, ended)) for _, number in points]
+
+
 def points_of(job, room):
     """All points of a call, the tree that it leaves, and how it ends; room is where it begins."""
     with tempfile.TemporaryDirectory() as copy:
@@ -161,8 +198,12 @@ def judged(program, part, seed):
     """Pairs of a point's name and its faults: of each tool's points those that the seed draws, or without one all."""
     if fault_points.tracer() is None:
         return []
-    rows, rooms = [], []
+    rows, rooms, under = [], [], []
     for name, job in jobs(program).items():
+        if job.tool == "campaign" and part in "fault of " + name:
+            rooms.append(tempfile.TemporaryDirectory())
+            template(rooms[-1].name, job)
+            under += replaced("fault of " + name, job, rooms[-1].name)
         # campaign and a run on the processor have a keeper beside them: these are tried outside the gate
         if seed is not None and job.tool in ("campaign", "hardware") and "-o" not in job.words:
             continue
@@ -178,7 +219,9 @@ def judged(program, part, seed):
 
     def judge(row):
         return row[0], judging.faults_told(lambda: list(filter(None, [fault_of(*row[1])])))
-    found = judging.in_processes(judge, rows, at_once=1)
+    def judge_replaced(row):
+        return row[0], judging.faults_told(lambda: list(filter(None, [fault_of_replaced(*row[1])])))
+    found = [*judging.in_processes(judge, rows, at_once=1), *judging.in_processes(judge_replaced, under, at_once=1)]
     for room in rooms:
         room.cleanup()
     return found
