@@ -1,5 +1,5 @@
 -- What an instruction does: five cases, by which threads, machines and laws go.
--- (Intel's manual: MOV, MFENCE, XCHG, XADD, CMPXCHG, ADD, SUB, AND, OR, XOR, INC, DEC, NOT, NEG and NOP, those on memory with LOCK.)
+-- (Intel's manual: MOV, MFENCE, XCHG and LOCK XADD.)
 use Rattle.std.specs.Prelude.{Option, Some, None}
 use Rattle.tso_terms.specs.declared.instruction.Loc.{Loc}
 use Rattle.tso_terms.specs.declared.instruction.Instr.{Instr}
