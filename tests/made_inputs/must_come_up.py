@@ -57,7 +57,7 @@ HINTED = ("run", "trace", "sweep", "outcomes", "why")
 
 # What may mislead in a test's names, and the commands of which it comes up; the last ones are rare beside a search.
 KEPT = {"a location that nothing uses": HINTED, "a register that nothing writes": HINTED, "a location that nothing writes": ("run", "trace"),
-        "two values of one place": ("run", "trace"), "names that differ in case alone": ("run",)}
+        "two values of one place": ("run", "trace")}
 
 AMOUNTS = ("none", "one", "several")
 

@@ -94,16 +94,16 @@ class ConditionReader:
             raise Fault("BadNumber", token.place, "of the condition")
         if setting.core is not None:
             self.counted(token)
-            return self.names_place(("register", core, setting.register, value), token.place)
+            return self.names_place(("register", core, setting.register, value), token.place, setting.named)
         location = number_of(setting.location, self.names)
         if location is None:
             raise Fault("TooLarge", token.place, "a 17th location in the condition")
         self.counted(token)
-        return self.names_place(("location", location, value), setting.named)
+        return self.names_place(("location", location, value), setting.named, setting.named)
 
-    def names_place(self, atom, place):
-        """The atom, which is noted with its place."""
-        self.named.append((atom, place))
+    def names_place(self, atom, place, name):
+        """The atom, which is noted with its place and that of the name in it."""
+        self.named.append((atom, place, name))
         return atom
 
     def counted(self, token):
@@ -114,7 +114,7 @@ class ConditionReader:
 
 class Setting:
     """`1:EAX=7`, `x=7` or `[x]=7`, of the initial state or of a condition. Core and number are digits, of any size; `core` or
-    `location` is None. `place` is that of its first token, `named` that of a location's name."""
+    `location` is None. `place` is that of its first token, `named` that of the register's or the location's name."""
 
     def __init__(self, place, named, core, register, location, number):
         self.place, self.named, self.core, self.register = place, named, core, register
@@ -145,7 +145,7 @@ def read_setting(tokens, first, where, unfit_token):
         form, core = "register", first.text
         symbol(":")
         token = tokens.take(where)
-        register = litmus.register_of(wanted(token, token.is_register()).text)
+        register, named = litmus.register_of(wanted(token, token.is_register()).text), token.place
     elif first.is_symbol("["):
         form, token = "location in brackets", tokens.take(where)
         location, named = wanted(token, token.is_location()).text, token.place

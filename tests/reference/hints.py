@@ -47,13 +47,13 @@ def unused(test):
     """The hint on the first location that the condition alone names, or None."""
     if test.unused is None:
         return None
-    line = next(line for atom, line in test.atoms if atom[:2] == ("location", test.unused))
+    line = next(line for atom, line, _ in test.atoms if atom[:2] == ("location", test.unused))
     return UNUSED % (line, test.locations[test.unused])
 
 
 def kept_register(test):
     """The hint on the first register of the condition that no instruction of its core writes, or None."""
-    for atom, line in test.atoms:
+    for atom, line, _ in test.atoms:
         if atom[0] == "register" and not test.is_written(*atom[1:3]):
             core, register = atom[1:3]
             return KEPT_REGISTER % (line, core, litmus.REGISTERS[register], core, test.registers[core][register])
@@ -63,7 +63,7 @@ def kept_register(test):
 def kept_location(test):
     """The hint on the first location of the condition that no instruction writes, and that begins with another value than is asked; or
     None."""
-    for atom, line in test.atoms:
+    for atom, line, _ in test.atoms:
         if atom[0] == "location" and not test.is_stored(atom[1]) and test.words[atom[1]] != atom[2]:
             return KEPT_LOCATION % (line, test.locations[atom[1]], test.words[atom[1]])
     return None
@@ -75,26 +75,32 @@ def never_true(test):
     if found is None:
         return None
     *place, value = found[0]
-    line = next(line for atom, line in test.atoms if list(atom[:-1]) == place)
-    name = "%d:%s" % (place[1], litmus.REGISTERS[place[2]]) if place[0] == "register" else test.locations[place[1]]
-    return NEVER_TRUE % (line, name, value, name, found[1])
+    line = next(name for atom, _, name in test.atoms if list(atom[:-1]) == place)
+    shown = "%d:%s" % (place[1], litmus.REGISTERS[place[2]]) if place[0] == "register" else test.locations[place[1]]
+    return NEVER_TRUE % (line, shown, value, shown, found[1])
 
 
 def contradiction(proposition):
-    """The first atom that another one contradicts, which is joined to it by `/\\`, and that one's value; or None."""
+    """An atom that another one contradicts, which is joined to it by `/\\`, and that one's value; or None. Of several parts the last is held against
+    those before it first, and then these likewise."""
     kind, *inside = proposition
     if kind not in ("not", "and", "or"):
         return None
     parts = [inside[0]] if kind == "not" else inside[0]
-    for at, part in enumerate(parts):
-        beside = [atom for other in parts[at + 1:] for atom in asked(other)] if kind == "and" else []
-        for atom in asked(part):
-            other = next((one for one in beside if one[:-1] == atom[:-1] and one[-1] != atom[-1]), None)
-            if other is not None:
-                return atom, other[-1]
-        found = contradiction(part)
+    for at in range(len(parts) - 1, 0, -1) if kind == "and" else ():
+        found = contradicted_by(parts[:at], parts[at])
         if found is not None:
             return found
+    return next(filter(None, map(contradiction, parts)), None)
+
+
+def contradicted_by(parts, other):
+    """The first atom that these parts ask for in any case and another part contradicts, and its value there; or None."""
+    beside = asked(other)
+    for atom in (atom for part in parts for atom in asked(part)):
+        values = [one[-1] for one in beside if one[:-1] == atom[:-1] and one[-1] != atom[-1]]
+        if values:
+            return atom, values[0]
     return None
 
 

@@ -71,7 +71,7 @@ class Instruction(typing.NamedTuple):
 class Test:
     """A test as its text spells it. `quantifier` and `proposition` are None where it has no condition. `unused` is the number
     of the first location that the condition alone names, or None. `atoms` are those of the condition that name a register or a location,
-    each with its line. `listed` are the names in `locations [..]`, each with a core's number, or None, and its line."""
+    each with its line and that of the name in it. `listed` are the names in `locations [..]`, each with a core's number, or None, and its line."""
     name: str
     locations: list
     words: list

@@ -279,14 +279,14 @@ class TestReader:
             return found
 
     def condition(self):
-        """The quantifier, the proposition, and its atoms, each with its line; after them nothing stands."""
+        """The quantifier, the proposition, and its atoms, each with its line and that of the name in it; after them nothing stands."""
         first = self.tokens.look(conditions.WHERE)
         quantifier = proposition = None
         self.named_before, atoms = len(self.names), []
         if first.is_symbol("~") or first.is_word("exists") or first.is_word("forall"):
             reader = ConditionReader(self.tokens, self.names, len(self.programs))
             quantifier, proposition = reader.quantifier(), reader.proposition()
-            atoms = [(atom, self.text.line_of(place)) for atom, place in reader.named]
+            atoms = [(atom, self.text.line_of(place), self.text.line_of(name)) for atom, place, name in reader.named]
         seen.note("quantifier", quantifier)
         token = self.tokens.look(conditions.WHERE)
         if token.kind != lexing.END:
