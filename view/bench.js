@@ -173,6 +173,7 @@ function showAnswer(answer) {
   showLeft();
   const noted = answer.status === REFUSED || currentCommand() === 'tables' ? '' : noticeOf(inputOf('sweep'));
   queryAll('.noticed').forEach((place, at) => putText(place, at > 0 ? noted.replace(/^Written: .*?(?=Note|$)/, '') : noted));
+  putText(byId('of-c'), OF_C);
   byId('of-c').hidden = answer.status === REFUSED || currentCommand() === 'tables' || !isFromC(testNow());
   if (answer.status === REFUSED) byId('test-part').open = true;
   showSaid(answer, isText ? '' : answer.text.trim());

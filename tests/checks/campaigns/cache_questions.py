@@ -34,7 +34,7 @@ def judge_week(program, tally, room):
     with open(table, encoding="ascii", newline="") as file:
         lines = list(csv.DictReader(file))
     found = {}
-    for row in lines:
+    for row in filter(lambda row: row["core"], lines):
         machine = [word for name in ("protocol", "bus", "sets", "ways", "words") for word in ("--" + name, row[name])]
         counts = found.setdefault((row["test"], *machine), {})
         counts[int(row["core"]), row["count"]] = [int(row[name]) for name in ("value", "least", "greatest")]

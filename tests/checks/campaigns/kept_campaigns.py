@@ -167,14 +167,14 @@ def judge_reports(program, tally, room):
     write(own, "".join(said[:9]))
     compared = tool("compare", "--within", swept, own)
     tally.add("the log of a sweep", None if compared.returncode == 0 else described(compared))
-    done = tool("campaign", "outcomes", program, "--depths", "0,32", "--json", *words, *tests[:9])
+    done = tool("campaign", "outcomes", program, "--depths", "0,32", "--json", "--force", *words, *tests[:9])
     write(own, done.stdout)
     compared = tool("compare", log, own)
     told = done.returncode == compared.returncode == 0 and compared.stdout == "18 tests in both logs, 0 differences\n"
     tally.add("a log of two depths", None if told else described(compared) + described(done))
     with open(test_file("MP"), encoding="ascii") as file:
         other = write(os.path.join(room, "named"), file.read().replace("X86 MP", "X86 SB"))
-    done = tool("campaign", "outcomes", program, *words, other, test_file("SB"))
+    done = tool("campaign", "outcomes", program, *words, "--force", other, test_file("SB"))
     told = done.returncode == 2 and done.stderr == "campaign: --log can't tell two tests of one name apart: SB\n"
     tally.add("a log of two tests of one name", None if told else described(done))
 

@@ -236,16 +236,24 @@ def judge_counts(program, tally, room):
                     for (core, count), values in counted(program, name, options, seeds).items():
                         wanted[name, protocol, bus, shape, str(core), count] = values
     found = {(row["test"], row["protocol"], row["bus"], "x".join(row[size] for size in ("sets", "ways", "words")), row["core"], row["count"]):
-             [int(row[column]) for column in ("value", "least", "greatest")] for row in rows}
+             [int(row[column]) for column in ("value", "least", "greatest")] for row in rows if row["core"]}
     wrong = [key for key in wanted.keys() | found.keys() if wanted.get(key) != found.get(key)]
     tally.add("counts by run", "%s: %s, not %s" % (wrong[0], found.get(wrong[0]), wanted.get(wrong[0])) if wrong else None)
+    runs = {(row["count"], row["value"]) for row in rows if not row["core"]}
+    tally.add("how many runs ended", None if runs == {("ended", "12"), ("unfinished", "0")} else str(runs))
     tally.add("a table's other columns", None if {(row["depth"], row["runs"], row["command"]) for row in rows} == {("4", "12", "counts")}
               else str(rows[0]))
     done = tool("campaign", "sweep", program, *words, "--results", results, test_file("SB"))
     tally.add("a sweep with results of counts", None if done.returncode == SAME else described(done))
     done = tool("campaign", "counts", "--program", program, "--length", "2", "--seeds", "3", "--json", test_file("SB"))
     one = json.loads(done.stdout)
-    tally.add("counts of runs without an end", None if (one["cores"], one["ended"], one["unfinished"]) == (None, 0, 3) else described(done))
+    ended = one["cores"], one["ended"], one["unfinished"], one["judged"], one["why"]
+    tally.add("counts of runs without an end", None if done.returncode == COULD_NOT and ended == (None, 0, 3, "OPEN", ["ended 0 of 3"])
+              else described(done))
+    done = tool("campaign", "counts", "--program", program, "--length", "9", "--seeds", "30", test_file("SB"))
+    some = re.search(r"^SB ended=(\d+) unfinished=(\d+) hits=.* - ended (\d+) of 30\n", done.stdout)
+    tally.add("counts of runs some of which have no end", None if done.returncode == SAME and some and some.group(1) == some.group(3)
+              else described(done))
     judge_table(table, rows, tally)
 
 

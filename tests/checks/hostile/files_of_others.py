@@ -87,6 +87,27 @@ def no_page(word):
     return judge
 
 
+def log_of_others(kind):
+    """A log that a campaign wrote takes no other log's place, but where it goes on with the same results: then all that is there comes again."""
+    def judge(calls):
+        work(calls, {"SB.litmus": SB, "other.litmus": SB.replace("X86 SB", "X86 other")})
+        results, log, tests = calls.path("work", "results"), calls.path("work", "log"), [calls.path("work", name) for name in ("SB.litmus", "other.litmus")]
+        done = campaign(calls, "--results", results, "--log", log, tests[0])
+        before = fault_points.tree(calls.path("work"))
+        words = {"nothing that is kept": ["--log", log, tests[0]], "other results": ["--results", results + "2", "--log", log, tests[0]],
+                 "other tests": ["--results", results, "--log", log, tests[1]],
+                 "other options": ["--results", results, "--log", log, "--depths", "0,32", tests[0]]}
+        if kind in words:
+            again = campaign(calls, *words[kind])
+            wrong = unchanged(calls, again, "campaign", before, "--force replaces it")
+            forced = campaign(calls, "--force", *words[kind])
+            return wrong or (None if done.returncode == forced.returncode == 0 else described(forced))
+        again = campaign(calls, "--results", results, "--log", log, *tests)
+        text = calls.read("work/log").decode()
+        return None if again.returncode == 0 and text.count("Test ") == 2 else described(again)
+    return judge
+
+
 def import_over_input(calls):
     """A test isn't imported over itself, but with --force; what is there already and the same is no hindrance."""
     text = SB.replace("MOV [x],$1", "MOV dword ptr [x],1")
@@ -218,6 +239,8 @@ ROWS = [
     ("a page over another file", no_page("--page")),
     ("a log over another file", no_page("--log")),
     ("a table over another file", no_page("--csv")),
+    *[("a log over a campaign's by " + kind, log_of_others(kind)) for kind in (
+        "nothing that is kept", "other results", "other tests", "other options", "the same results")],
     ("a test imported over itself", import_over_input),
     ("tests of cycles over another file", cycles_over_others(["--length", "4", "--no-verdict"], "SB.litmus", 22)),
     ("C11 tests of cycles over another file", cycles_over_others(["--length", "2", "--c11"], "LB+rlx+rlx.c", 79)),

@@ -1,5 +1,6 @@
 """Texts that would take long to import, for tests/hostile_tools.py: each of 64 KiB, or more; and what hostile texts, names and streams
 have the tools say."""
+import csv
 import html.parser
 import json
 import os
@@ -8,6 +9,9 @@ import resource
 import subprocess
 
 from checks import judging
+from checks.tools import tool_runs  # it finds the tools
+
+import means
 
 from .attacked_tools import COULD_NOT, DIFFERS, ESCAPE, ONE, SB, a_start, described, refused
 
@@ -15,6 +19,9 @@ LONGEST = 65_536
 
 # Seconds of the processor's time of a call for a text, and those after which it is ended.
 SECONDS, MOST_SECONDS = 1.0, 5
+
+# Seconds after which a call waits for what never comes.
+MOST_WAIT = 120
 
 # On a machine that is busy or slow it's as many times what a start of Python takes.
 STARTS = 24
@@ -75,6 +82,54 @@ SLOW = {
     "four times as many rows": filled(ROWS_HEAD, " MFENCE ;\n", length=4 * LONGEST),
     "sixteen times as many negations": filled(ROWS_HEAD + " MFENCE ;\nexists ", "~", length=16 * LONGEST),
 }
+
+
+# The tools that take a folder or a list of tests, with words before these, and what each says of SB.
+TAKING = {"import": ([], "X86 SB"), "campaign": (["outcomes", "PROGRAM"], "SB Sometimes"), "fences": (["--program", "PROGRAM"], "SB: Allowed"),
+          "theory": ([], "allowed   SB"), "hardware": (["-o", "tests.c"], ""), "compare": (["log", "log", "--tests"], "1 tests in both logs")}
+
+
+def passed_over(tool, word, is_alone=False):
+    """A tool to which a folder or a list gives what is no file, beside a test or alone: it is told in a line, and nothing waits for it."""
+    def judge(calls):
+        words, said = TAKING[tool]
+        calls.write("log", "Test SB\nStates 1\nx=1;\n")
+        if not is_alone:
+            calls.write("in/SB.litmus", SB)
+        os.makedirs(calls.path("in"), exist_ok=True)
+        os.mkfifo(calls.path("in", "pipe.litmus"))
+        calls.write("list", ("" if is_alone else "in/SB.litmus\n") + "in/pipe.litmus\n/dev/zero\n")
+        done = calls.call(tool, *[calls.program if one == "PROGRAM" else one for one in words], word, seconds=MOST_WAIT)
+        told = done.stderr.count(" is no file, and is passed over\n")
+        wanted = (COULD_NOT if is_alone else 0), 1 if word == "in" else 2
+        return None if (done.returncode, told) == wanted and (is_alone or said in done.stdout) and "Traceback" not in done.stderr else described(done)
+    return judge
+
+
+def lists_in_a_circle(tool):
+    """Lists that name each other are told in a line."""
+    def judge(calls):
+        calls.write("one", "SB.litmus\n@two\n")
+        calls.write("two", "@one\n")
+        calls.write("SB.litmus", SB)
+        calls.write("log", "Test SB\nStates 1\nx=1;\n")
+        words = [calls.program if one == "PROGRAM" else one for one in TAKING[tool][0]]
+        return refused(calls.call(tool, *words, "@one", seconds=MOST_WAIT), tool, "@one names itself")
+    return judge
+
+
+def formula_cells(calls):
+    """A name that a spreadsheet would take for a formula is a text in a table, and read back as it was."""
+    names = ["=1+1", "+1", "-1", "@SUM(A1)", "'=1", "''@x", "'plain", "a=b", '"=1"']
+    for at, name in enumerate(names):
+        calls.write("in/%d.litmus" % at, SB.replace("X86 SB", "X86 " + name))
+    done = calls.call("campaign", "counts", calls.program, "--seeds", "2", "--csv", calls.path("table"), calls.path("in"))
+    with open(calls.path("table"), encoding="utf-8", newline="") as file:
+        cells = [cell for line in csv.reader(file) for cell in line]
+    if done.returncode != 0 or any(cell.startswith(tuple("=+-@")) for cell in cells):
+        return described(done)
+    found = [row.about["test"] for row in means.read_table(calls.path("table"))]
+    return None if sorted(found) == sorted(names) else str(found)
 
 
 def slow_text(text):
@@ -359,6 +414,11 @@ ROWS += [
     ("names with markup", names_in_reports),
     ("names that steer a terminal", escapes_in_names),
     ("words that steer a terminal", escapes_in_words),
+    *[("what is no file in a %s, for %s" % (word.strip("@"), tool), passed_over(tool, word)) for tool in TAKING for word in ("in", "@list")],
+    *[("nothing but what is no file in a %s, for %s" % (word.strip("@"), tool), passed_over(tool, word, True))
+      for tool in ("import", "campaign", "fences", "theory") for word in ("in", "@list")],
+    *[("lists that name each other, for " + tool, lists_in_a_circle(tool)) for tool in TAKING],
+    ("cells that would be formulas", formula_cells),
     ("a list that names itself", list_of_itself("@all\n", "@%s/all")),
     ("a list that names itself by another path", list_of_itself("@./all\n", "@%s/../work/all")),
     ("JSON that is neither a reason nor a run", other_json),
