@@ -5,7 +5,7 @@
     tests/try_edits.py --oldest MOST SECONDS     so many at most, in so many processor seconds: those that were refused longest ago
     tests/try_edits.py --applies                 proves nothing: whether each edit, those of must-fail/ too, still finds its text
 
-Run it for a crate whose code or contracts change; the gate tries a few that were refused longest ago. An edit has the form of those in
+Run it for a crate whose code or contracts change; outside the gate `--oldest` tries a few that were refused longest ago. An edit has the form of those in
 crates/NAME/must-fail/: a line 'file: src/lib.rt' and pairs of lines 'old: TEXT' and 'new: TEXT'. Where the file is one of a crate below, a
 line 'crate: OTHER' stands before it: then what stands between the two is built anew over the edited file, and NAME is checked. Everything
 happens in a scratch copy, by 'rt check'.
@@ -15,7 +15,7 @@ names are tried by one check, and each is refused where a function that it chang
 check of its own, and so has each that its group's check doesn't refuse. The last line is 'N passed, M failed'.
 
 tests/data/refused_edits.list says of each edit when it was refused last, and by what. What is refused now is written there: commit it, that
-the next gate tries others.
+the next run tries others.
 """
 import collections
 import glob
