@@ -251,6 +251,8 @@ def caveat_row(bench):
                        ("X86 own\n{ }\n P0 | P1 ;\n MOV [x],$1 | MOV [y],$1 ;\n MOV EAX,[y] | MOV EAX,[x] ;\nexists (0:EAX=0)\n", False)):
         bench.fill("test", text)
         bench.value("byId('write-so').hidden || writeRepairs()")
+        bench.value("ask('run')")
+        bench.wait("!bench.task && currentCommand() === 'run'")
         faults += differs("run of " + text, bench.value(said)[0], is_c)
         for command, shown in (("outcomes", ".states-sheet"), ("why", ".reason")):
             bench.value("ask('%s')" % command)
